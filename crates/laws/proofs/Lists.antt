@@ -1,0 +1,94 @@
+-- Tests and membership. Assumes nothing.
+use mathlib.Core.Bool.{Bool, true, false, not, cond, _&&_, _||_}
+use mathlib.Core.List.{List, [], _∷_, _++_, map, flatMap, List·Memᴰ, List·Memᴰ·head, List·Memᴰ·tail, List·Memᴰ·not-nil, List·Memᴰ·cases-cons, List·Memᴰ·append-cases, Memᴰ·append-left, Memᴰ·append-right}
+use mathlib.Core.Path.{_≡_, refl, sym, ap, subst}
+use mathlib.Core.Logic.{_⊎_, inl, inr}
+use Prim.Native.Nat.{ℕ, zero, suc}
+use lib.Dec.{T, T-not, not-T, eqb, eqb→eq, eqb-refl}
+use Rattle.rules.specs.Lists.{any, keep}
+
+pub or-left : (a b : Bool) → T a → T (a || b)
+or-left true b t = tt
+
+pub or-right : (a b : Bool) → T b → T (a || b)
+or-right true b t = tt
+or-right false b t = t
+
+pub or-cases : (a b : Bool) → T (a || b) → T a ⊎ T b
+or-cases true b t = inl tt
+or-cases false b t = inr t
+
+pub and-left : (a b : Bool) → T (a && b) → T a
+and-left true b t = tt
+
+pub and-right : (a b : Bool) → T (a && b) → T b
+and-right true b t = t
+
+pub and-both : (a b : Bool) → T a → T b → T (a && b)
+and-both true b s t = t
+
+pub ruleset tests = (and-left, and-right, and-both, or-left, or-right)
+
+-- two tests that pass together are equal
+pub same-test : (a b : Bool) → (T a → T b) → (T b → T a) → a ≡ b
+same-test true true f g = refl
+same-test true false f g = absurd (f tt)
+same-test false true f g = absurd (g tt)
+same-test false false f g = refl
+
+pub eq-test : {m n : ℕ} → m ≡ n → T (eqb m n)
+eq-test {m} e = subst (λ k. T (eqb m k)) e (eqb-refl m)
+
+module _ {A : Type 0} (f : A → Bool) where
+  pub any-in : {x : A} {l : List A} → List·Memᴰ x l → T (f x) → T (any f l)
+  unfolding any
+  any-in {l = y ∷ l} (List·Memᴰ·head e) t = or-left (f y) (any f l) (subst (λ z. T (f z)) e t)
+  any-in {l = y ∷ l} (List·Memᴰ·tail m) t = or-right (f y) (any f l) (any-in m t)
+
+  pub any-out : (l : List A) → T (any f l) → (x : A) × List·Memᴰ x l × T (f x)
+  unfolding any
+  any-out (y ∷ l) t = go (any-out l) (or-cases (f y) (any f l) t)
+    where
+      go : (T (any f l) → (x : A) × List·Memᴰ x l × T (f x)) → T (f y) ⊎ T (any f l) → (x : A) × List·Memᴰ x (y ∷ l) × T (f x)
+      go below (inl s) = (y, List·Memᴰ·head refl, s)
+      go below (inr s) = let r = below s in (r .0, List·Memᴰ·tail (r .1), r .2)
+
+  pub keep-in : {x : A} {l : List A} → List·Memᴰ x l → T (f x) → List·Memᴰ x (keep f l)
+  unfolding keep
+  keep-in {x} {l = y ∷ l} (List·Memᴰ·head e) t = go (f y) (subst (λ z. T (f z)) e t)
+    where
+      go : (b : Bool) → T b → List·Memᴰ x (cond b (y ∷ keep f l) (keep f l))
+      go true s = List·Memᴰ·head e
+  keep-in {x} {l = y ∷ l} (List·Memᴰ·tail m) t = go (f y) (keep-in m t)
+    where
+      go : (b : Bool) → List·Memᴰ x (keep f l) → List·Memᴰ x (cond b (y ∷ keep f l) (keep f l))
+      go true s = List·Memᴰ·tail s
+      go false s = s
+
+  pub keep-out : {x : A} (l : List A) → List·Memᴰ x (keep f l) → List·Memᴰ x l × T (f x)
+  unfolding keep
+  keep-out [] m = absurd (List·Memᴰ·not-nil m)
+  keep-out {x} (y ∷ l) m = go (f y) (λ t. t) (keep-out l) m
+    where
+      go : (b : Bool) → (T b → T (f y)) → (List·Memᴰ x (keep f l) → List·Memᴰ x l × T (f x)) → List·Memᴰ x (cond b (y ∷ keep f l) (keep f l)) → List·Memᴰ x (y ∷ l) × T (f x)
+      go false pass below n = (List·Memᴰ·tail (below n .0), below n .1)
+      go true pass below n = on (List·Memᴰ·cases-cons n)
+        where
+          on : (x ≡ y) ⊎ List·Memᴰ x (keep f l) → List·Memᴰ x (y ∷ l) × T (f x)
+          on (inl e) = (List·Memᴰ·head e, subst (λ z. T (f z)) (sym e) (pass tt))
+          on (inr k) = (List·Memᴰ·tail (below k .0), below k .1)
+
+module _ {A B : Type 0} (f : A → List B) where
+  pub flat-in : {x : A} {y : B} {l : List A} → List·Memᴰ x l → List·Memᴰ y (f x) → List·Memᴰ y (flatMap f l)
+  unfolding flatMap
+  flat-in {y} {l = z ∷ l} (List·Memᴰ·head e) n = Memᴰ·append-left (flatMap f l) (subst (λ w. List·Memᴰ y (f w)) e n)
+  flat-in {l = z ∷ l} (List·Memᴰ·tail m) n = Memᴰ·append-right (f z) (flat-in m n)
+
+  pub flat-out : {y : B} (l : List A) → List·Memᴰ y (flatMap f l) → (x : A) × List·Memᴰ x l × List·Memᴰ y (f x)
+  unfolding flatMap
+  flat-out [] n = absurd (List·Memᴰ·not-nil n)
+  flat-out {y} (z ∷ l) n = go (flat-out l) (List·Memᴰ·append-cases (f z) n)
+    where
+      go : (List·Memᴰ y (flatMap f l) → (x : A) × List·Memᴰ x l × List·Memᴰ y (f x)) → List·Memᴰ y (f z) ⊎ List·Memᴰ y (flatMap f l) → (x : A) × List·Memᴰ x (z ∷ l) × List·Memᴰ y (f x)
+      go below (inl k) = (z, List·Memᴰ·head refl, k)
+      go below (inr k) = let r = below k in (r .0, List·Memᴰ·tail (r .1), r .2)

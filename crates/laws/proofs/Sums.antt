@@ -1,0 +1,87 @@
+-- The best of a list is in it, and no entry is better: for the smallest and for the largest alike. Assumes nothing.
+use mathlib.Core.List.{List, [], _∷_, List·Memᴰ, List·Memᴰ·head, List·Memᴰ·tail, List·Memᴰ·not-nil, Memᴰ·cast}
+use mathlib.Core.Path.{_≡_, refl, sym, _∙_, subst}
+use mathlib.Core.Logic.{_⊎_, inl, inr, ⊎-elim}
+use Prim.Native.Nat.{ℕ, zero, suc, _≤_, _<_, _+_, min, max}
+use native.Mathlib.Omega.{arith}
+use native.Mathlib.Decide.{decLe}
+use Rattle.rules.specs.Delay.{cap}
+use Rattle.rules.specs.Paths.{best}
+
+pub order : (a b : ℕ) → (a ≤ b) ⊎ (b < a)
+order a b = go (decLe a b)
+  where
+    go : Dec (a ≤ b) → (a ≤ b) ⊎ (b < a)
+    go (yes h) = inl h
+    go (no h) = inr (omega arith)
+
+-- a choice between two numbers, and the order by which it chooses
+pub record Choice (f : ℕ → ℕ → ℕ) : Type 1 where
+  pub Good : ℕ → ℕ → Type 0
+  pub good-refl : (a : ℕ) → Good a a
+  pub good-trans : (a b c : ℕ) → Good a b → Good b c → Good a c
+  pub good-both : (a b : ℕ) → Good a b → Good b a → a ≡ b
+  pub good-left : (a b : ℕ) → Good (f a b) a
+  pub good-right : (a b : ℕ) → Good (f a b) b
+  pub one-of : (a b : ℕ) → (f a b ≡ a) ⊎ (f a b ≡ b)
+  pub onto : (d a b : ℕ) → Good a b → Good (min cap (a + d)) (min cap (b + d))
+
+pub smaller : Choice min
+smaller = record {
+  Good = λ a b. a ≤ b;
+  good-refl = λ a. omega arith;
+  good-trans = λ a b c h k. omega arith;
+  good-both = λ a b h k. omega arith;
+  good-left = λ a b. omega arith;
+  good-right = λ a b. omega arith;
+  one-of = λ a b. ⊎-elim (λ h. inl (omega arith)) (λ h. inr (omega arith)) (order a b);
+  onto = λ d a b h. omega arith;
+}
+
+pub larger : Choice max
+larger = record {
+  Good = λ a b. b ≤ a;
+  good-refl = λ a. omega arith;
+  good-trans = λ a b c h k. omega arith;
+  good-both = λ a b h k. omega arith;
+  good-left = λ a b. omega arith;
+  good-right = λ a b. omega arith;
+  one-of = λ a b. ⊎-elim (λ h. inr (omega arith)) (λ h. inl (omega arith)) (order a b);
+  onto = λ d a b h. omega arith;
+}
+
+module _ {f : ℕ → ℕ → ℕ} (C : Choice f) where
+  open Choice C using (Good, good-refl, good-trans, good-both, good-left, good-right, one-of)
+
+  best-in : (x : ℕ) (l : List ℕ) → List·Memᴰ (best f (x ∷ l)) (x ∷ l)
+  unfolding best
+  best-in x [] = List·Memᴰ·head refl
+  best-in x (y ∷ l) = go (best-in y l) (one-of x (best f (y ∷ l)))
+    where
+      go : List·Memᴰ (best f (y ∷ l)) (y ∷ l) → (f x (best f (y ∷ l)) ≡ x) ⊎ (f x (best f (y ∷ l)) ≡ best f (y ∷ l)) → List·Memᴰ (f x (best f (y ∷ l))) (x ∷ y ∷ l)
+      go m (inl e) = List·Memᴰ·head e
+      go m (inr e) = List·Memᴰ·tail (Memᴰ·cast e m)
+
+  pub best-at : {x : ℕ} (l : List ℕ) → List·Memᴰ x l → List·Memᴰ (best f l) l
+  best-at [] m = absurd (List·Memᴰ·not-nil m)
+  best-at (y ∷ l) m = best-in y l
+
+  pub best-good : {x : ℕ} {l : List ℕ} → List·Memᴰ x l → Good (best f l) x
+  unfolding best
+  best-good {x} {l = y ∷ []} (List·Memᴰ·head e) = subst (Good y) (sym e) (good-refl y)
+  best-good {l = y ∷ []} (List·Memᴰ·tail m) = absurd (List·Memᴰ·not-nil m)
+  best-good {x} {l = y ∷ z ∷ l} (List·Memᴰ·head e) = subst (Good (f y (best f (z ∷ l)))) (sym e) (good-left y (best f (z ∷ l)))
+  best-good {x} {l = y ∷ z ∷ l} (List·Memᴰ·tail m) = good-trans _ _ _ (good-right y (best f (z ∷ l))) (best-good m)
+
+  -- each entry of l has one of r that is at least as good
+  abbrev pub Under : List ℕ → List ℕ → Type 0
+  Under l r = (x : ℕ) → List·Memᴰ x l → (y : ℕ) × List·Memᴰ y r × Good y x
+
+  pub best-same : (l r : List ℕ) → Under l r → Under r l → best f l ≡ best f r
+  best-same [] [] h k = refl
+  best-same [] (y ∷ r) h k = absurd (List·Memᴰ·not-nil (k y (List·Memᴰ·head refl) .1))
+  best-same (x ∷ l) [] h k = absurd (List·Memᴰ·not-nil (h x (List·Memᴰ·head refl) .1))
+  best-same (x ∷ l) (y ∷ r) h k =
+      let a = h (best f (x ∷ l)) (best-in x l) in
+      let b = k (best f (y ∷ r)) (best-in y r) in
+      good-both _ _ (good-trans _ _ _ (best-good (b .1)) (b .2)) (good-trans _ _ _ (best-good (a .1)) (a .2))

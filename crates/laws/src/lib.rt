@@ -1,0 +1,1 @@
+// Theorems about the rules are in proofs/; there is no code here.

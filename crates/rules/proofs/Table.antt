@@ -1,0 +1,38 @@
+-- The kind table as the code reads it. Assumes nothing.
+use mathlib.Core.List.{List, [], _∷_}
+use mathlib.Core.Path.{_≡_, refl, sym, ap, _∙_}
+use Prim.Native.Nat.{ℕ, zero, suc, _<_, _≤_}
+use native.Mathlib.Omega.{arith}
+use borrow.Author.Tests.{lt-ltb, le-ltb}
+use lib.ListN.{length, getD, List·getD-eq-default}
+use Rattle.rules.specs.Kinds.{kindTable, kindRow, conductor, delayBy, wordDelay}
+use Rattle.rules.specs.declared.kinds.KindRow.{KindRow}
+use Rattle.rules.specs.declared.kinds.KindDelay.the-variants.{Fixed, Own}
+
+-- inside a list the default does not matter
+pub getD-inside : {A : Type 0} (l : List A) (i : ℕ) (d e : A) → i < length l → getD l i d ≡ getD l i e
+getD-inside [] i d e h = absurd (omega arith)
+getD-inside (x ∷ l) zero d e h = refl
+getD-inside (x ∷ l) (suc i) d e h = getD-inside l i d e (omega arith)
+
+pub row-inside : (code : ℕ) (d : KindRow) → code < 13 → getD kindTable code d ≡ kindRow code
+unfolding kindRow
+row-inside code d h = getD-inside kindTable code d conductor h
+
+pub row-past : (code : ℕ) → 13 ≤ code → conductor ≡ kindRow code
+unfolding kindRow
+row-past code h = sym (List·getD-eq-default kindTable conductor h)
+
+-- a delay by what the row says
+module _ (code word ticks : ℕ) where
+  pub delay-fixed : kindRow code .delay ≡ Fixed ticks → ticks ≡ wordDelay code word
+  unfolding wordDelay delayBy
+  delay-fixed e = sym (ap (λ k. delayBy k word) e)
+
+  pub delay-own : kindRow code .delay ≡ Own ticks → word < 256 → word ≡ wordDelay code word
+  unfolding wordDelay delayBy
+  delay-own e h = sym (ap (λ k. delayBy k word) e ∙ rw (lt-ltb word 256 h))
+
+  pub delay-absent : kindRow code .delay ≡ Own ticks → 256 ≤ word → ticks ≡ wordDelay code word
+  unfolding wordDelay delayBy
+  delay-absent e h = sym (ap (λ k. delayBy k word) e ∙ rw (le-ltb word 256 h))

@@ -1,0 +1,41 @@
+-- The answer of the call that writes lists 3 to 8. Assumes nothing: these are definitions.
+use mathlib.Core.Bool.{not}
+use mathlib.Core.List.{List, [], _∷_}
+use Prim.Native.Nat.{ℕ, _+_, _*_}
+use lib.ListN.{length}
+use Rattle.rules.specs.Lists.{count}
+use Rattle.rules.specs.Scene.{Component, Scene, edges}
+use Rattle.rules.specs.Reasons.{reasons, feedback, scope, pattern}
+use Rattle.rules.specs.Projection.{compressed, projected, pathIds}
+use Rattle.rules.specs.Graph.{Edge}
+use Rattle.rules.specs.Refusals.{Output, output}
+use Rattle.rules.specs.declared.answers.Assessment.{Assessment}
+use Rattle.rules.specs.declared.answers.Checked.{Checked}
+use Rattle.rules.specs.declared.answers.Checked.the-variants.{Accepted, Refused}
+use Rattle.rules.specs.declared.answers.SceneAnswer.{SceneAnswer}
+use Rattle.rules.specs.declared.answers.SceneAnswer.the-variants as Answer
+
+-- the output lists of the call: "3 reasons 2N+1, 4 feedback ids N, 5 retained or compressed marks N, 6 projected edges M, 7 path ids 2M+N, 8 labels N"
+abbrev pub assessOutputs : (n m : ℕ) → (reasonLengths feedbackLengths markLengths projectedLengths pathLengths labelLengths : List ℕ) → List Output
+assessOutputs n m l3 l4 l5 l6 l7 l8 =
+    output 3 (2 * n + 1) l3 ∷ output 4 n l4 ∷ output 5 n l5 ∷ output 6 m l6 ∷ output 7 (2 * m + n) l7 ∷ output 8 n l8 ∷ []
+
+-- scope, pattern, "Confidence is 100", and how many entries of each list are used
+unfoldable pub assessment : List Component → List Edge → Assessment
+assessment cs es =
+    record {
+      scope = scope cs es;
+      pattern = pattern cs es;
+      confidence = 100;
+      reasons = length (reasons cs es);
+      feedback = length (feedback cs es);
+      retained = count (λ c. not (compressed cs es (c .id))) cs;
+      compressed = count (λ c. compressed cs es (c .id)) cs;
+      projected = length (projected cs es);
+      «path_ids» = length (pathIds (projected cs es));
+    }
+
+-- the answer: the refusal, or the assessment
+abbrev pub sceneAnswer : Checked → Scene → SceneAnswer
+sceneAnswer Accepted s = Answer.Assessed (assessment (s .components) (edges s))
+sceneAnswer (Refused number place) s = Answer.Refused number place

@@ -1,0 +1,66 @@
+-- Edges between ids: reach, cycles, settled components, strongly connected components. Assumes nothing: these are definitions.
+use mathlib.Core.Bool.{Bool, not, _&&_, _||_}
+use mathlib.Core.List.{List, [], _∷_, List·Memᴰ}
+use mathlib.Core.Path.{_≡_}
+use Prim.Native.Nat.{ℕ}
+use lib.Dec.{eqb}
+use Rattle.rules.specs.Lists.{any, count}
+
+infix 60 _⟶_
+-- an edge from a source id to a sink id
+pub data Edge : Type 0 where
+  _⟶_ : ℕ → ℕ → Edge
+
+abbrev pub src : Edge → ℕ
+src (a ⟶ b) = a
+
+abbrev pub dst : Edge → ℕ
+dst (a ⟶ b) = b
+
+abbrev pub startsAt : ℕ → Edge → Bool
+startsAt v e = eqb (src e) v
+
+abbrev pub endsAt : ℕ → Edge → Bool
+endsAt v e = eqb (dst e) v
+
+-- how many edges end at v, and how many start there
+unfoldable pub inCount : List Edge → ℕ → ℕ
+inCount es v = count (endsAt v) es
+
+unfoldable pub outCount : List Edge → ℕ → ℕ
+outCount es v = count (startsAt v) es
+
+-- v is u, or edges lead from u to v: without the first edge, or up to its source and on from its sink without it
+unfoldable pub reach : List Edge → ℕ → ℕ → Bool
+reach [] u v = eqb u v
+reach ((a ⟶ b) ∷ es) u v =
+    let after = reach es b v in
+    let through = reach es u a && after in
+    reach es u v || through
+
+-- the edge is on a cycle ("a self-edge is a cycle"), and v is reached from there
+abbrev pub cycleReaching : List Edge → ℕ → Edge → Bool
+cycleReaching es v e = reach es (dst e) (src e) && reach es (src e) v
+
+-- "A component is settled if it is on no cycle and not reachable from one."
+unfoldable pub settled : List Edge → ℕ → Bool
+settled es v = not (any (cycleReaching es v) es)
+
+-- "a maximal set of vertices of a directed graph in which every vertex is reachable from every other": u and v share theirs
+unfoldable pub sameComponent : List Edge → ℕ → ℕ → Bool
+sameComponent es u v = reach es u v && reach es v u
+
+-- The same notions without computation; crate laws shows that they agree
+
+-- a row of edges from u to v
+pub data Walk (es : List Edge) : ℕ → ℕ → Type 0 where
+  stop : {u v : ℕ} → u ≡ v → Walk es u v
+  step : {u w v : ℕ} → List·Memᴰ (u ⟶ w) es → Walk es w v → Walk es u v
+
+-- an edge leaves u, and a walk leads back
+abbrev pub OnCycle : List Edge → ℕ → Type 0
+OnCycle es u = (w : ℕ) × List·Memᴰ (u ⟶ w) es × Walk es w u
+
+-- on no cycle and not reachable from one
+abbrev pub Settled : List Edge → ℕ → Type 0
+Settled es v = (u : ℕ) → OnCycle es u → Walk es u v → ⊥

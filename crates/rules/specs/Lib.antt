@@ -1,0 +1,16 @@
+pub mod Lists
+pub mod Delay
+pub mod Kinds
+pub mod Codes
+pub mod Graph
+pub mod Scene
+pub mod Paths
+pub mod Reasons
+pub mod Projection
+pub mod Refusals
+pub mod Describe
+pub mod Assess
+pub mod Pulses
+pub mod Verdicts
+pub mod Traces
+pub mod Recording

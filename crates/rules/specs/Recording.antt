@@ -1,0 +1,45 @@
+-- Recording a trace. Assumes nothing: these are definitions.
+use mathlib.Core.Bool.{Bool, not, _||_}
+use mathlib.Core.List.{List, [], _∷_, map}
+use Prim.Native.Nat.{ℕ, suc, _+_, _*_}
+use lib.Dec.{eqb, leb, ltb}
+use lib.ListN.{length, getD}
+use Rattle.rules.specs.Lists.{sum, indices}
+use Rattle.rules.specs.Refusals.{Test, test, firstRefusal}
+use Rattle.rules.specs.Verdicts.{Finding, tallies}
+use Rattle.rules.specs.Traces.{TraceLimits, TraceLists, eventCount, traceTests, traceFindings, transientAnswer}
+use Rattle.rules.specs.declared.answers.Checked.{Checked}
+use Rattle.rules.specs.declared.answers.Checked.the-variants.{Accepted, Refused}
+use Rattle.rules.specs.declared.transient.TransientRecord.{TransientRecord}
+use Rattle.rules.specs.declared.transient.Recorded.{Recorded}
+
+-- "A record is false if its tallies don't sum to findings held, or findings exceed 4,096 times traces, both in whole numbers that don't wrap."
+-- 4,096 is the most events, so the most findings, that one trace brings
+unfoldable pub recordFalse : TraceLimits → TransientRecord → Bool
+recordFalse limits r = not (eqb (sum (r .tallies)) (r .findings)) || ltb (limits .events * r .traces) (r .findings)
+
+-- "Recording puts 15, then 13 first." "the list needs findings held plus events"
+unfoldable pub recordTests : TraceLimits → TransientRecord → TraceLists → (lengths : List ℕ) → List Test
+recordTests limits r t lengths =
+    test (recordFalse limits r) 15 0 ∷ test (leb (limits .traces) (r .traces)) 13 0 ∷ traceTests limits t (r .findings + eventCount t) lengths
+
+unfoldable pub checkRecording : TraceLimits → TransientRecord → TraceLists → (lengths : List ℕ) → Checked
+checkRecording limits r t lengths = firstRefusal (recordTests limits r t lengths)
+
+-- two rows of tallies, added
+unfoldable pub addTallies : List ℕ → List ℕ → List ℕ
+addTallies a b = map (λ k. getD a k 0 + getD b k 0) (indices 5)
+
+-- "Traces, findings and tallies grow by this trace's."
+unfoldable pub grown : TransientRecord → List Finding → TransientRecord
+grown r fs =
+    record { traces = suc (r .traces); findings = r .findings + length fs; tallies = addTallies (r .tallies) (tallies fs) }
+
+-- the record after the call: as it was, under a refusal. List 9 is `afterFrom checked (r .findings) old new`:
+-- "Findings are appended to list 9 after those held, which stay"
+abbrev pub recordAfter : Checked → TransientRecord → TraceLists → TransientRecord
+recordAfter Accepted r t = grown r (traceFindings t)
+recordAfter (Refused number place) r t = r
+
+unfoldable pub recorded : Checked → TransientRecord → TraceLists → Recorded
+recorded checked r t = record { answer = transientAnswer checked t; held = recordAfter checked r t }

@@ -1,0 +1,110 @@
+-- The refusals of a scene, in their order. Assumes nothing: these are definitions.
+use mathlib.Core.Bool.{Bool, true, false, not, cond, _&&_, _||_}
+use mathlib.Core.List.{List, [], _∷_, _++_, flatMap}
+use Prim.Native.Nat.{ℕ, _+_, _*_}
+use lib.Dec.{eqb, ltb}
+use lib.ListN.{length, getD, take}
+use Rattle.rules.specs.Lists.{any, indices, writtenFrom}
+use Rattle.rules.specs.Scene.{Component, Connection, ComponentLists, ConnectionLists, componentAt, connectionAt, isEdge}
+use Rattle.rules.specs.declared.answers.Checked.{Checked}
+use Rattle.rules.specs.declared.answers.Checked.the-variants.{Accepted, Refused}
+
+-- one condition of the table of refusals, at one place
+pub record Test : Type 0 where
+  pub holds : Bool
+  pub number : ℕ
+  pub place : ℕ
+
+abbrev pub test : Bool → ℕ → ℕ → Test
+test b n p = record { holds = b; number = n; place = p }
+
+-- the first condition that holds. The tests of a step are listed by rising place: "Within one step of this order the lowest place is given.
+-- A condition that doesn't hold never gives its number."
+unfoldable pub firstRefusal : List Test → Checked
+firstRefusal [] = Accepted
+firstRefusal (t ∷ ts) =
+    let r = firstRefusal ts in
+    cond (t .holds) (Refused (t .number) (t .place)) r
+
+-- "Each returns its number and a place; every lent list and the record keep their contents.": what a lent list holds after a call
+-- whose entries are to be written from a place on
+module _ {A : Type 0} where
+  abbrev pub afterFrom : Checked → ℕ → List A → List A → List A
+  afterFrom Accepted start old new = writtenFrom start old new
+  afterFrom (Refused number place) start old new = old
+
+  abbrev pub after : Checked → List A → List A → List A
+  after checked old new = afterFrom checked 0 old new
+
+-- the sizes that a scene may have
+pub record SceneLimits : Type 0 where
+  pub components : ℕ
+  pub connections : ℕ
+
+-- "N over 512", "M over 2,048"
+abbrev pub sceneLimits : SceneLimits
+sceneLimits = record { components = 512; connections = 2048 }
+
+-- an output list: its number, the length it needs, and the lengths of the number lists of its fields
+pub record Output : Type 0 where
+  pub number : ℕ
+  pub need : ℕ
+  pub lengths : List ℕ
+
+abbrev pub output : ℕ → ℕ → List ℕ → Output
+output n k ls = record { number = n; need = k; lengths = ls }
+
+-- some length is not the first one
+abbrev pub lengthsDiffer : List ℕ → Bool
+lengthsDiffer [] = false
+lengthsDiffer (n ∷ ns) = any (λ m. not (eqb m n)) ns
+
+unfoldable pub componentLengths : ComponentLists → List ℕ
+componentLengths l =
+    length (l .ids) ∷ length (l .kinds) ∷ length (l .delays) ∷ length (l .locked) ∷ length (l .xs) ∷ length (l .ys) ∷ length (l .zs) ∷ []
+
+unfoldable pub connectionLengths : ConnectionLists → List ℕ
+connectionLengths l = length (l .sources) ∷ length (l .sinks) ∷ length (l .transfers) ∷ []
+
+-- 7: "output list shorter than needed", "A list of several fields is one number list for each field, and 7 tests every one."
+abbrev pub outputTest : Output → Test
+outputTest o = test (any (λ n. ltb n (o .need)) (o .lengths)) 7 (o .number)
+
+-- 4: "kind over 12, delay word over 256 or locked over 1"
+unfoldable pub outOfRange : Component → Bool
+outOfRange c = ltb 12 (c .kind) || (ltb 256 (c .delay) || ltb 1 (c .locked))
+
+-- 3: "id already used by an earlier component"
+unfoldable pub usedEarlier : List ℕ → ℕ → Bool
+usedEarlier ids i = any (eqb (getD ids i 0)) (take i ids)
+
+-- "components one by one (4 then 3)"
+unfoldable pub componentTests : ComponentLists → ℕ → List Test
+componentTests l i = test (outOfRange (componentAt l i)) 4 i ∷ test (usedEarlier (l .ids) i) 3 i ∷ []
+
+-- 5: "transfer over 6"
+abbrev pub badTransfer : Connection → Bool
+badTransfer n = ltb 6 (n .transfer)
+
+-- 6: "an edge's end is no component"
+unfoldable pub endMissing : List ℕ → Connection → Bool
+endMissing ids n = isEdge n && (not (any (eqb (n .source)) ids) || not (any (eqb (n .sink)) ids))
+
+-- "connections one by one (5 then 6)"
+unfoldable pub connectionTests : ComponentLists → ConnectionLists → ℕ → List Test
+connectionTests l m j = test (badTransfer (connectionAt m j)) 5 j ∷ test (endMissing (l .ids) (connectionAt m j)) 6 j ∷ []
+
+-- 8, 1, 2 and 7
+unfoldable pub sizeTests : SceneLimits → ComponentLists → ConnectionLists → List Output → List Test
+sizeTests limits l m outputs =
+    test (lengthsDiffer (componentLengths l)) 8 0 ∷ test (lengthsDiffer (connectionLengths m)) 8 1 ∷ test (ltb (limits .components) (length (l .ids))) 1 (length (l .ids))
+    ∷ test (ltb (limits .connections) (length (m .sources))) 2 (length (m .sources)) ∷ flatMap (λ o. outputTest o ∷ []) outputs
+
+-- "Order for a scene: 8, 1, 2, 7, components one by one (4 then 3), connections one by one (5 then 6)."
+unfoldable pub sceneTests : SceneLimits → ComponentLists → ConnectionLists → List Output → List Test
+sceneTests limits l m outputs =
+    sizeTests limits l m outputs
+    ++ (flatMap (componentTests l) (indices (length (l .ids))) ++ flatMap (connectionTests l m) (indices (length (m .sources))))
+
+unfoldable pub checkScene : SceneLimits → ComponentLists → ConnectionLists → List Output → Checked
+checkScene limits l m outputs = firstRefusal (sceneTests limits l m outputs)

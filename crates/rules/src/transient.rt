@@ -1,0 +1,139 @@
+// Pulses, verdicts and the running record.
+ghost use mathlib.Core.Path.{_≡_};
+ghost use Rattle.rules.specs.Codes.{polarityCode, unitCode, verdictCode, polarityOf, unitOf};
+
+pub enum PulsePolarity {
+    High,
+    Low,
+}
+
+pub enum TraceTimeUnit {
+    RedstoneTick,
+    GameTick,
+}
+
+pub enum TransientVerdict {
+    PulseObserved,
+    TransientDeviation,
+    HazardCandidate,
+    HazardConfirmed,
+    IntentionalPulse,
+}
+
+// What a contract says of a signal.
+pub enum SignalIntent {
+    SteadyStateOnly,
+    Stable {
+        powered: bool,
+    },
+    IntentionalPulse {
+        polarity: PulsePolarity,
+        unit: TraceTimeUnit,
+        minimum_width: u64,
+        maximum_width: u64,
+    },
+    MaximumPulseWidth {
+        polarity: PulsePolarity,
+        unit: TraceTimeUnit,
+        maximum_width: u64,
+    },
+}
+
+// The intent of a component's contract, if it has one.
+pub enum DesignIntent {
+    NotRegistered,
+    Registered(SignalIntent),
+}
+
+// A verdict with the code of its rationale.
+pub struct Judgement {
+    pub verdict: TransientVerdict,
+    pub rationale: u8,
+}
+
+// The running record: traces held, findings held, and a tally for each verdict by its number.
+pub struct TransientRecord {
+    pub traces: u64,
+    pub findings: u64,
+    pub tallies: [u64; 5],
+}
+
+// How many findings were written, and how many contracts were given.
+pub enum TransientAnswer {
+    Refused {
+        number: u32,
+        place: u64,
+    },
+    Assessed {
+        findings: u64,
+        contracts_applied: u64,
+    },
+}
+
+// The answer with the tallies of this trace; all are 0 under a refusal.
+pub struct TransientAssessment {
+    pub answer: TransientAnswer,
+    pub tallies: [u64; 5],
+}
+
+// The answer with the record after the call.
+pub struct Recorded {
+    pub answer: TransientAnswer,
+    pub held: TransientRecord,
+}
+
+impl PulsePolarity {
+    pub fn code(self) -> u8
+        ensures { λ r. ⌜ r ≡ polarityCode self ⌝ }
+    {
+        match self {
+            PulsePolarity::High => 0,
+            PulsePolarity::Low => 1,
+        }
+    }
+
+    pub fn of(code: u8) -> Self
+        ensures { λ r. ⌜ r ≡ polarityOf code ⌝ }
+    {
+        if code == 0 {
+            PulsePolarity::High
+        } else {
+            PulsePolarity::Low
+        }
+    }
+}
+
+impl TraceTimeUnit {
+    pub fn code(self) -> u8
+        ensures { λ r. ⌜ r ≡ unitCode self ⌝ }
+    {
+        match self {
+            TraceTimeUnit::RedstoneTick => 0,
+            TraceTimeUnit::GameTick => 1,
+        }
+    }
+
+    pub fn of(code: u8) -> Self
+        ensures { λ r. ⌜ r ≡ unitOf code ⌝ }
+    {
+        if code == 0 {
+            TraceTimeUnit::RedstoneTick
+        } else {
+            TraceTimeUnit::GameTick
+        }
+    }
+}
+
+impl TransientVerdict {
+    pub fn code(self) -> u8
+        ensures { λ r. ⌜ r ≡ verdictCode self ⌝ }
+    {
+        match self {
+            TransientVerdict::PulseObserved => 0,
+            TransientVerdict::TransientDeviation => 1,
+            TransientVerdict::HazardCandidate => 2,
+            TransientVerdict::HazardConfirmed => 3,
+            TransientVerdict::IntentionalPulse => 4,
+        }
+    }
+}
