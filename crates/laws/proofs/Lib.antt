@@ -1,9 +1,5 @@
-pub mod Lists
-pub mod Distinct
-pub mod Permutations
-pub mod Reach
-pub mod Paths
-pub mod Sums
-pub mod Ranges
 pub mod Order
 pub mod PlainSums
+pub mod Chains
+pub mod Projection
+pub mod PathParts

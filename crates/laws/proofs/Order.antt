@@ -6,11 +6,11 @@ use Rattle.rules.specs.Graph.{Edge, startsAt, endsAt, reach, settled, sameCompo
 use Rattle.rules.specs.Paths.{pathsTo, delaySum, bestSum, label, PathTo, only, then}
 use Rattle.rules.specs.Scene.{Component, delayAt}
 use Rattle.rules.specs.Reasons.{feedback, unequalAt, unequalReason, unequalReasonsBy, unequalReasons, temporalReasons, reasons, scope, pattern, labels, risingIds}
-use Rattle.laws.proofs.Lists.{same-test}
-use Rattle.laws.proofs.Permutations.{perm-mem, perm-count}
-use Rattle.laws.proofs.Reach.{Within, wider, reach-same}
-use Rattle.laws.proofs.Paths.{settled→, →settled, path→listed, listed→path}
-use Rattle.laws.proofs.Sums.{Choice, Under, best-same, smaller, larger}
+use Rattle.rules.proofs.Lists.{same-test}
+use Rattle.rules.proofs.Permutations.{perm-mem, perm-count}
+use Rattle.rules.proofs.Reach.{Within, wider, reach-same}
+use Rattle.rules.proofs.Paths.{settled→, →settled, path→listed, listed→path}
+use Rattle.rules.proofs.Sums.{Choice, Under, best-same, smaller, larger}
 
 module _ (es fs : List Edge) (h : Within es fs) (k : Within fs es) where
   settled-wider : (v : ℕ) → Settled fs v → Settled es v

@@ -11,15 +11,15 @@ use lib.ListN.{length, getD, length-map}
 use Rattle.rules.specs.Lists.{any, keep}
 use Rattle.rules.specs.Delay.{cap, saturatingAdd}
 use Rattle.rules.specs.Kinds.{kindTable, kindRow, conductor, delayBy, wordDelay}
-use Rattle.rules.specs.Scene.{Component, idOf, hasId, byId, componentDelay, delayAt}
+use Rattle.rules.specs.Scene.{EndsListed, Component, idOf, hasId, byId, componentDelay, delayAt}
 use Rattle.rules.specs.Graph.{Edge, _⟶_, src, dst}
 use Rattle.rules.specs.Paths.{delaySum, total, PathTo, only, then}
 use Rattle.rules.specs.declared.kinds.KindDelay.{KindDelay}
 use Rattle.rules.specs.declared.kinds.KindDelay.the-variants.{Fixed, Own}
 use Rattle.rules.specs.declared.kinds.KindRow.{KindRow}
-use Rattle.laws.proofs.Lists.{any-in}
-use Rattle.laws.proofs.Distinct.{pigeon}
-use Rattle.laws.proofs.Paths.{before, path-distinct}
+use Rattle.rules.proofs.Lists.{any-in}
+use Rattle.rules.proofs.Distinct.{pigeon}
+use Rattle.rules.proofs.Paths.{before, path-distinct}
 
 -- a sum stops where the plain sum is above the cap, and nowhere else
 pub capped-total : (d : ℕ → ℕ) (p : List ℕ) → delaySum d p ≡ min cap (total d p)
@@ -76,10 +76,6 @@ delay-bound cs v = go (List·Memᴰ·cases-cons (getD-in (map componentDelay (ke
     go (inr m) =
         let r = Memᴰ·of-map componentDelay (keep (hasId v) cs) m in
         subst (λ n. n ≤ 255) (r .2) (by-row (kindRow (r .0 .kind) .delay) (r .0 .delay) (every-row-fits (r .0 .kind)))
-
--- every end of every edge is the id of a component
-abbrev pub EndsListed : List Component → List Edge → Type 0
-EndsListed cs es = (e : Edge) → List·Memᴰ e es → List·Memᴰ (src e) (map idOf cs) × List·Memᴰ (dst e) (map idOf cs)
 
 module _ (cs : List Component) (es : List Edge) (ends : EndsListed cs es) where
   listed : {v : ℕ} {p : List ℕ} → PathTo es v p → (x : ℕ) → List·Memᴰ x p → List·Memᴰ x (map idOf cs)

@@ -1,7 +1,8 @@
 -- Paths, their sums, and labels. Assumes nothing: these are definitions.
 use mathlib.Core.Bool.{Bool, true, false, not, cond, _&&_}
 use mathlib.Core.List.{List, [], _∷_, _++_, map, flatMap, List·Memᴰ}
-use Prim.Native.Nat.{ℕ, zero, suc, _+_, min, max}
+use mathlib.Core.Path.{_≡_}
+use Prim.Native.Nat.{ℕ, zero, suc, _+_, _≤_, min, max}
 use lib.ListN.{length}
 use Rattle.rules.specs.Lists.{any, keep}
 use Rattle.rules.specs.Delay.{saturatingAdd}
@@ -84,3 +85,17 @@ highSum (between low high) = high
 pub data PathTo (es : List Edge) : ℕ → List ℕ → Type 0 where
   only : {v : ℕ} → ((u : ℕ) → List·Memᴰ (u ⟶ v) es → ⊥) → PathTo es v []
   then : {v u : ℕ} {p : List ℕ} → List·Memᴰ (u ⟶ v) es → Settled es u → PathTo es u p → PathTo es v (u ∷ p)
+
+-- n is the sum of a path to v, and no path's sum is better
+pub record Extreme (Good : ℕ → ℕ → Type 0) (es : List Edge) (sum : List ℕ → ℕ) (v n : ℕ) : Type 0 where
+  pub path : List ℕ
+  pub is-path : PathTo es v path
+  pub has-sum : sum path ≡ n
+  pub bounds : (p : List ℕ) → PathTo es v p → Good n (sum p)
+
+-- "the smallest and the largest over all paths to it"
+abbrev pub Smallest : List Edge → (List ℕ → ℕ) → ℕ → ℕ → Type 0
+Smallest es sum v n = Extreme (λ a b. a ≤ b) es sum v n
+
+abbrev pub Largest : List Edge → (List ℕ → ℕ) → ℕ → ℕ → Type 0
+Largest es sum v n = Extreme (λ a b. b ≤ a) es sum v n

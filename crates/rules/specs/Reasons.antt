@@ -1,13 +1,14 @@
 -- Feedback, reasons, scope and patterns. Assumes nothing: these are definitions.
 use mathlib.Core.Bool.{Bool, true, false, not, cond, _&&_, _||_}
-use mathlib.Core.List.{List, [], _∷_, _++_, map, flatMap}
-use Prim.Native.Nat.{ℕ}
-use lib.Dec.{eqb, leb}
+use mathlib.Core.List.{List, [], _∷_, _++_, map, flatMap, List·Memᴰ}
+use mathlib.Core.Path.{_≡_}
+use Prim.Native.Nat.{ℕ, _≤_}
+use lib.Dec.{T, eqb, leb}
 use Rattle.rules.specs.Lists.{some, any, keep, rising}
 use Rattle.rules.specs.Kinds.{isDevice}
-use Rattle.rules.specs.Scene.{Component, Scene, idOf, edges, row, rowAt, delayAt}
-use Rattle.rules.specs.Graph.{Edge, inCount, sameComponent}
-use Rattle.rules.specs.Paths.{smallestSum, largestSum, Label, label}
+use Rattle.rules.specs.Scene.{Component, idOf, row, rowAt, delayAt}
+use Rattle.rules.specs.Graph.{Edge, inCount, sameComponent, Walk}
+use Rattle.rules.specs.Paths.{smallestSum, largestSum, Label, label, Smallest, Largest}
 use Rattle.rules.specs.declared.kinds.TemporalNodeKind.{TemporalNodeKind}
 use Rattle.rules.specs.declared.kinds.TemporalNodeKind.the-variants.{Source, Wire, Inverter, Delay, Comparator, Actuator, Conductor}
 use Rattle.rules.specs.declared.kinds.KindRow.{KindRow}
@@ -148,3 +149,23 @@ pattern cs es =
 -- list 8, "in component order": "Labels use the kind table's delays."
 unfoldable pub labels : List Component → List Edge → List Label
 labels cs es = map (label es (delayAt cs) (delayAt cs)) (map idOf cs)
+
+-- Reasons without computation; the laws in proofs/ show that the listed ones are these
+
+-- "each component that is neither Wire nor Conductor and shares its strongly connected component with a different component"
+pub record OnFeedback (cs : List Component) (es : List Edge) (c : Component) : Type 0 where
+  pub active : T (passive (row c .node)) → ⊥
+  pub other : Component
+  pub listed : List·Memᴰ other cs
+  pub different : other .id ≡ c .id → ⊥
+  pub there : Walk es (c .id) (other .id)
+  pub back : Walk es (other .id) (c .id)
+
+-- "an unequal-delay reason names a component exactly when at least two connections end there and two path sums differ: the smallest and the
+-- largest over all paths to it". `lows` and `highs` give a path's sum
+pub record UnequalDelay (cs : List Component) (es : List Edge) (lows highs : List ℕ → ℕ) (v low high : ℕ) : Type 0 where
+  pub component : List·Memᴰ v (map idOf cs)
+  pub incoming : 2 ≤ inCount es v
+  pub smallest : Smallest es lows v low
+  pub largest : Largest es highs v high
+  pub differ : low ≡ high → ⊥

@@ -1,13 +1,13 @@
 -- The scene: components, connections, edges, and what a component is by its id. Assumes nothing: these are definitions.
-use mathlib.Core.Bool.{Bool, not}
-use mathlib.Core.List.{List, [], _∷_, map}
+use mathlib.Core.Bool.{Bool, not, _&&_}
+use mathlib.Core.List.{List, map, List·Memᴰ}
 use Prim.Native.Nat.{ℕ, _≤_}
 use lib.Dec.{eqb}
 use lib.IntN.{ℤ, pos}
 use lib.ListN.{length, getD}
 use Rattle.rules.specs.Lists.{keep, count, indices}
 use Rattle.rules.specs.Kinds.{kindRow, conductor, wordDelay}
-use Rattle.rules.specs.Graph.{Edge, _⟶_}
+use Rattle.rules.specs.Graph.{Edge, _⟶_, src, dst}
 use Rattle.rules.specs.declared.kinds.KindRow.{KindRow}
 
 -- "A component has an id (64 bits), a kind code, a delay word (0 to 255, or 256 for absent), a locked flag and a position of three signed 32-bit numbers."
@@ -93,6 +93,14 @@ hasId v c = eqb (c .id) v
 -- no id stands twice
 abbrev pub DistinctIds : List Component → Type 0
 DistinctIds cs = (v : ℕ) → count (hasId v) cs ≤ 1
+
+-- every end of every edge is the id of a component
+abbrev pub EndsListed : List Component → List Edge → Type 0
+EndsListed cs es = (e : Edge) → List·Memᴰ e es → List·Memᴰ (src e) (map idOf cs) × List·Memᴰ (dst e) (map idOf cs)
+
+-- "Two components, or two connections, are the same if they are equal in every field."
+abbrev pub sameConnection : Connection → Connection → Bool
+sameConnection a b = eqb (a .source) (b .source) && (eqb (a .sink) (b .sink) && eqb (a .transfer) (b .transfer))
 
 -- a component's row of the kind table, and its delay: a repeater's own, absent 1
 unfoldable pub row : Component → KindRow

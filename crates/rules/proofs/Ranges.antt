@@ -7,15 +7,15 @@ use Prim.Native.Nat.{ℕ, zero, suc, _+_, min, max, _≤_, _<_}
 use native.Mathlib.Omega.{arith}
 use lib.Dec.{T, eqb, eqb→eq}
 use lib.ListN.{length, length-map}
 use Rattle.rules.specs.Lists.{any, Distinct}
 use Rattle.rules.specs.Graph.{Edge, _⟶_, src, dst, endsAt, Walk, stop, step, OnCycle, Settled}
 use Rattle.rules.specs.Delay.{saturatingAdd}
-use Rattle.rules.specs.Paths.{noIncoming, settledSources, pathsTo, delaySum, best, bestSum, PathTo, only, then}
-use Rattle.laws.proofs.Lists.{any-out}
-use Rattle.laws.proofs.Reach.{join}
-use Rattle.laws.proofs.Distinct.{pigeon}
-use Rattle.laws.proofs.Paths.{noIncoming→, settled-back, source-in, source-out, path→listed, listed→path}
-use Rattle.laws.proofs.Sums.{Choice, best-at, best-good, best-same, Under}
+use Rattle.rules.specs.Paths.{noIncoming, settledSources, pathsTo, delaySum, best, bestSum, PathTo, only, then, Extreme}
+use Rattle.rules.proofs.Lists.{any-out}
+use Rattle.rules.proofs.Reach.{join}
+use Rattle.rules.proofs.Distinct.{pigeon}
+use Rattle.rules.proofs.Paths.{noIncoming→, settled-back, source-in, source-out, path→listed, listed→path}
+use Rattle.rules.proofs.Sums.{Choice, best-at, best-good, best-same, Under}
 
 module _ (es : List Edge) where
   -- v leads to x
@@ -80,11 +80,23 @@ module _ {f : ℕ → ℕ → ℕ} (C : Choice f) (es : List Edge) (d : ℕ → 
   unfolding bestSum
   best-bounds P = best-good C (sum-in P)
 
-  pub best-reached : (v : ℕ) → Settled es v → (p : List ℕ) × PathTo es v p × (delaySum d p ≡ bestSum f es d v)
+  pub best-attained : {v : ℕ} {p : List ℕ} → PathTo es v p → (q : List ℕ) × PathTo es v q × (delaySum d q ≡ bestSum f es d v)
   unfolding bestSum
-  best-reached v s =
-      let r = Memᴰ·of-map (delaySum d) (pathsTo es v) (best-at C _ (sum-in (path-exists es v s .1))) in
+  best-attained {v} P =
+      let r = Memᴰ·of-map (delaySum d) (pathsTo es v) (best-at C _ (sum-in P)) in
       (r .0, listed→path es v (r .0) (r .1), r .2)
+
+  pub best-reached : (v : ℕ) → Settled es v → (p : List ℕ) × PathTo es v p × (delaySum d p ≡ bestSum f es d v)
+  best-reached v s = best-attained (path-exists es v s .1)
+
+  -- where there is a path, the best sum is the extreme one, and the only one
+  pub best-extreme : {v : ℕ} {p : List ℕ} → PathTo es v p → Extreme (C .Good) es (delaySum d) v (bestSum f es d v)
+  best-extreme P = let r = best-attained P in record { path = r .0; is-path = r .1; has-sum = r .2; bounds = λ p Q. best-bounds Q }
+
+  pub extreme-best : {v n : ℕ} → Extreme (C .Good) es (delaySum d) v n → n ≡ bestSum f es d v
+  extreme-best {v} {n} x =
+      let r = best-attained (x .is-path) in
+      C .good-both n (bestSum f es d v) (subst (C .Good n) (r .2) (x .bounds (r .0) (r .1))) (subst (C .Good (bestSum f es d v)) (x .has-sum) (best-bounds (x .is-path)))
 
   -- what an incoming edge from u brings: u's best sum with u's delay
   unfoldable pub through : ℕ → ℕ

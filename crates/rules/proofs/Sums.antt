@@ -26,7 +26,7 @@ pub record Choice (f : ℕ → ℕ → ℕ) : Type 1 where
   pub one-of : (a b : ℕ) → (f a b ≡ a) ⊎ (f a b ≡ b)
   pub onto : (d a b : ℕ) → Good a b → Good (min cap (a + d)) (min cap (b + d))
 
-pub smaller : Choice min
+abbrev pub smaller : Choice min
 smaller = record {
   Good = λ a b. a ≤ b;
   good-refl = λ a. omega arith;
@@ -38,7 +38,7 @@ smaller = record {
   onto = λ d a b h. omega arith;
 }
 
-pub larger : Choice max
+abbrev pub larger : Choice max
 larger = record {
   Good = λ a b. b ≤ a;
   good-refl = λ a. omega arith;

@@ -5,8 +5,8 @@ use mathlib.Core.Path.{_≡_, refl, sym, ap, subst, _∙_}
 use mathlib.Core.Logic.{_⊎_, inl, inr}
 use Prim.Native.Nat.{ℕ, zero, suc}
 use lib.Dec.{T, eqb, eqb→eq, eqb-refl}
 use Rattle.rules.specs.Graph.{Edge, _⟶_, src, dst, reach, Walk, stop, step}
-use Rattle.laws.proofs.Lists.{or-left, or-right, or-cases, and-left, and-right, and-both, same-test, eq-test, tests}
+use Rattle.rules.proofs.Lists.{or-left, or-right, or-cases, and-left, and-right, and-both, same-test, eq-test, tests}
 
 abbrev pub Within : List Edge → List Edge → Type 0
 Within es fs = (e : Edge) → List·Memᴰ e es → List·Memᴰ e fs

@@ -8,12 +8,12 @@ use native.Mathlib.Omega.{arith}
 use native.Mathlib.Nat.{not-suc-le-zero}
 use lib.Dec.{T, T-not, not-T, eqb, eqb→eq, eqb-refl}
 use lib.ListN.{length, length-map}
 use Rattle.rules.specs.Lists.{any, keep, Distinct}
 use Rattle.rules.specs.Graph.{Edge, _⟶_, src, dst, endsAt, cycleReaching, reach, settled, Walk, stop, step, OnCycle, Settled}
 use Rattle.rules.specs.Paths.{entersSettled, noIncoming, settledSources, pathsWithin, pathsTo, PathTo, only, then}
-use Rattle.laws.proofs.Lists.{or-left, or-right, or-cases, and-left, and-right, and-both, same-test, eq-test, tests, any-in, any-out, keep-in, keep-out, flat-in, flat-out}
-use Rattle.laws.proofs.Reach.{Within, join, wider, reach→walk, walk→reach}
-use Rattle.laws.proofs.Distinct.{pigeon}
+use Rattle.rules.proofs.Lists.{or-left, or-right, or-cases, and-left, and-right, and-both, same-test, eq-test, tests, any-in, any-out, keep-in, keep-out, flat-in, flat-out}
+use Rattle.rules.proofs.Reach.{Within, join, wider, reach→walk, walk→reach}
+use Rattle.rules.proofs.Distinct.{pigeon}
 
 module _ (es : List Edge) where
   pub settled→ : (v : ℕ) → T (settled es v) → Settled es v

@@ -6,10 +6,15 @@ use Prim.Native.Nat.{ℕ, zero, suc, _≤_}
 use native.Mathlib.Omega.{arith}
 use lib.Dec.{T}
 use lib.ListN.{length, getD}
 use Rattle.rules.specs.Lists.{any, keep, count}
-use Rattle.laws.proofs.Lists.{same-test, any-in, any-out}
+use Rattle.rules.proofs.Lists.{same-test, any-in, any-out}
 
 module _ {A : Type 0} where
+  -- an entry moved to the front
+  pub to-front : {x : A} {l : List A} → List·Memᴰ x l → (r : List A) × List·Permᴰ l (x ∷ r)
+  to-front (List·Memᴰ·head {xs} e) = (xs, List·Permᴰ·cons (sym e) (Permᴰ·refl xs))
+  to-front (List·Memᴰ·tail {x = y} m) = let k = to-front m in (y ∷ k .0, List·Permᴰ·trans (List·Permᴰ·cons refl (k .1)) (List·Permᴰ·swap refl refl))
+
   pub perm-mem : {l r : List A} → List·Permᴰ l r → (x : A) → List·Memᴰ x l → List·Memᴰ x r
   perm-mem List·Permᴰ·nil x m = m
   perm-mem (List·Permᴰ·cons e d) x (List·Memᴰ·head c) = List·Memᴰ·head (c ∙ e)

@@ -38,6 +38,15 @@ same-test false false f g = refl
 
 pub eq-test : {m n : ℕ} → m ≡ n → T (eqb m n)
 eq-test {m} e = subst (λ k. T (eqb m k)) e (eqb-refl m)
+
+-- a choice by a test that passes, and by one that does not
+module _ {A : Type 0} (x y : A) where
+  pub chosen : (b : Bool) → T b → cond b x y ≡ x
+  chosen true t = refl
+
+  pub not-chosen : (b : Bool) → (T b → ⊥) → cond b x y ≡ y
+  not-chosen true f = absurd (f tt)
+  not-chosen false f = refl
 
 module _ {A : Type 0} (f : A → Bool) where
   pub any-in : {x : A} {l : List A} → List·Memᴰ x l → T (f x) → T (any f l)

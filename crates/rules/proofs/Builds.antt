@@ -1,0 +1,244 @@
+-- The builds and traces to hold against, as one tabulated fact. Assumes nothing.
+use mathlib.Core.Bool.{Bool, true, false, not, cond, _&&_, _||_}
+use mathlib.Core.List.{List, [], _∷_, _++_, map, flatMap}
+use mathlib.Core.Path.{_≡_, refl}
+use Prim.Native.Nat.{ℕ}
+use lib.IntN.{ℤ, pos}
+use lib.ListN.{length}
+use Rattle.rules.specs.Lists.{any, keep, count, from, indices, insert, rising, once, sum}
+use Rattle.rules.specs.Delay.{saturatingAdd}
+use Rattle.rules.specs.Kinds.{kindRow, delayBy, wordDelay, isDevice}
+use Rattle.rules.specs.Graph.{inCount, outCount, reach, settled, sameComponent}
+use Rattle.rules.specs.Scene.{Component, Connection, Scene, edgesOf, edges, row, componentDelay, byId, rowAt, delayAt}
+use Rattle.rules.specs.Paths.{noIncoming, settledSources, pathsWithin, pathsTo, delaySum, best, bestSum, Label, unsettled, between, label}
+use Rattle.rules.specs.Reasons.{inFeedback, feedback, Reason, unequalReconvergentDelay, feedbackLoop, statefulOrMechanicalDevice, lockedRepeater, feedbackReason, ownReason, unequalAt, unequalReason, risingIds, unequalReasonsBy, unequalReasons, temporalReasons, reasons, scope, pattern, labels}
+use Rattle.rules.specs.Projection.{compressed, marks, retained, firstEdges, next, chain, chainFrom, beforeLast, lastOf, flips, invertsAt, Projected, projectedBy, projectedAlong, projected}
+use Rattle.rules.specs.Pulses.{Event, isPulse, pulseOf, pulsesIn, eventComponents, pulses}
+use Rattle.rules.specs.Verdicts.{Contract, intentOf, designIntent, classify, Finding, findingOf, findings, tally, tallies}
+use Rattle.rules.specs.Traces.{findingPolarity, findingWidth, findingVerdict, findingRationale}
+use Rattle.rules.specs.declared.answers.TemporalScope.{TemporalScope}
+use Rattle.rules.specs.declared.answers.TemporalScope.the-variants.{SteadyStateSafe, TimingSensitive, TemporalRequired}
+use Rattle.rules.specs.declared.answers.BehaviorPattern.{BehaviorPattern}
+use Rattle.rules.specs.declared.answers.BehaviorPattern.the-variants.{DelayedPath, ClockCandidate, LatchCandidate, Nothing}
+use Rattle.rules.specs.declared.transient.TraceTimeUnit.the-variants.{RedstoneTick}
+
+-- What is asked of the rules, and what they answer
+
+data Question : Type 0 where
+  build : List Component → List Connection → Question
+  trace : List Event → List Contract → Question
+
+record Report : Type 0 where
+  scope : TemporalScope
+  reasons : List Reason
+  feedback : List ℕ
+  pattern : BehaviorPattern
+  marks : List ℕ
+  projected : List Projected
+  labels : List Label
+
+-- of a pulse: polarity, width, verdict, rationale
+record Judged : Type 0 where
+  polarity : ℕ
+  width : ℕ
+  verdict : ℕ
+  rationale : ℕ
+
+data Answer : Type 0 where
+  reported : Report → Answer
+  judged : List Judged → Answer
+
+report : List Component → List Connection → Report
+report cs ns =
+    let es = edgesOf ns in
+    record {
+      scope = scope cs es;
+      reasons = reasons cs es;
+      feedback = feedback cs es;
+      pattern = pattern cs es;
+      marks = marks cs es;
+      projected = projected cs es;
+      labels = labels cs es;
+    }
+
+judgedOf : Finding → Judged
+judgedOf f = record { polarity = findingPolarity f; width = findingWidth f; verdict = findingVerdict f; rationale = findingRationale f }
+
+answer : Question → Answer
+answer (build cs ns) = reported (report cs ns)
+answer (trace es cs) = judged (map judgedOf (findings RedstoneTick es cs))
+
+record Row : Type 0 where
+  asked : Question
+  expected : Answer
+
+-- Short ways to write them
+
+abbrev block : ℕ → ℕ → ℕ → Component
+block i k d = record { id = i; kind = k; delay = d; locked = 0; x = pos 0; y = pos 0; z = pos 0 }
+
+abbrev lever : ℕ → Component
+lever i = block i 3 256
+
+abbrev lamp : ℕ → Component
+lamp i = block i 6 256
+
+abbrev wire : ℕ → Component
+wire i = block i 8 256
+
+abbrev torch : ℕ → Component
+torch i = block i 9 256
+
+abbrev repeater : ℕ → ℕ → Component
+repeater i d = block i 10 d
+
+infix 90 _to_
+abbrev _to_ : ℕ → ℕ → Connection
+a to b = record { source = a; sink = b; transfer = 1 }
+
+abbrev straight : ℕ → ℕ → ℕ → List ℕ → Projected
+straight a b d p = record { source = a; sink = b; inverted = 0; minimum = d; maximum = d; path = p }
+
+abbrev event : ℕ → ℕ → ℕ → Event
+event i t p = record { index = i; tick = t; component = 7; powered = p }
+
+-- off, on, off at three ticks
+abbrev pulseAt : ℕ → ℕ → ℕ → List Event
+pulseAt a b c = event 0 a 0 ∷ event 1 b 1 ∷ event 2 c 0 ∷ []
+
+abbrev intentional : ℕ → ℕ → List Contract
+intentional low high = record { component = 7; intent = 2; powered = 9; polarity = 0; unit = 0; smallest = low; largest = high } ∷ []
+
+abbrev stable : ℕ → List Contract
+stable level = record { component = 7; intent = 1; powered = level; polarity = 9; unit = 9; smallest = 0; largest = 0 } ∷ []
+
+abbrev high2 : ℕ → ℕ → Answer
+high2 v r = judged (record { polarity = 0; width = 2; verdict = v; rationale = r } ∷ [])
+
+-- The rows
+
+abbrev rows : List Row
+rows =
+    -- empty: safe, nothing listed
+    record {
+      asked = build [] [];
+      expected = reported (record { scope = SteadyStateSafe; reasons = []; feedback = []; pattern = Nothing; marks = []; projected = []; labels = [] });
+    }
+    -- lever 1 → repeater 2 (4) → lamp 3
+    ∷ record {
+      asked = build (lever 1 ∷ repeater 2 4 ∷ lamp 3 ∷ []) (1 to 2 ∷ 2 to 3 ∷ []);
+      expected =
+          reported (record {
+            scope = SteadyStateSafe;
+            reasons = [];
+            feedback = [];
+            pattern = DelayedPath;
+            marks = 1 ∷ 0 ∷ 1 ∷ [];
+            projected = straight 1 3 4 (1 ∷ 2 ∷ 3 ∷ []) ∷ [];
+            labels = between 0 0 ∷ between 0 0 ∷ between 4 4 ∷ [];
+          });
+    }
+    -- 1→2, 2→4, 1→4 with lever 1, repeater 2 (1), lamp 4
+    ∷ record {
+      asked = build (lever 1 ∷ repeater 2 1 ∷ lamp 4 ∷ []) (1 to 2 ∷ 2 to 4 ∷ 1 to 4 ∷ []);
+      expected =
+          reported (record {
+            scope = TimingSensitive;
+            reasons = unequalReconvergentDelay 4 0 1 ∷ [];
+            feedback = [];
+            pattern = DelayedPath;
+            marks = 1 ∷ 0 ∷ 1 ∷ [];
+            projected = straight 1 4 1 (1 ∷ 2 ∷ 4 ∷ []) ∷ straight 1 4 0 (1 ∷ 4 ∷ []) ∷ [];
+            labels = between 0 0 ∷ between 0 0 ∷ between 0 1 ∷ [];
+          });
+    }
+    -- repeaters 1→2→1
+    ∷ record {
+      asked = build (repeater 1 1 ∷ repeater 2 1 ∷ []) (1 to 2 ∷ 2 to 1 ∷ []);
+      expected =
+          reported (record {
+            scope = TemporalRequired;
+            reasons = feedbackLoop ∷ [];
+            feedback = 1 ∷ 2 ∷ [];
+            pattern = LatchCandidate;
+            marks = 0 ∷ 0 ∷ [];
+            projected = [];
+            labels = unsettled ∷ unsettled ∷ [];
+          });
+    }
+    -- torch 1 → wire 2 → torch 1
+    ∷ record {
+      asked = build (torch 1 ∷ wire 2 ∷ []) (1 to 2 ∷ 2 to 1 ∷ []);
+      expected =
+          reported (record {
+            scope = TemporalRequired;
+            reasons = feedbackLoop ∷ [];
+            feedback = 1 ∷ [];
+            pattern = ClockCandidate;
+            marks = 1 ∷ 0 ∷ [];
+            projected = record { source = 1; sink = 1; inverted = 1; minimum = 1; maximum = 1; path = 1 ∷ 2 ∷ 1 ∷ [] } ∷ [];
+            labels = unsettled ∷ unsettled ∷ [];
+          });
+    }
+    -- wires 1→2→3→1
+    ∷ record {
+      asked = build (wire 1 ∷ wire 2 ∷ wire 3 ∷ []) (1 to 2 ∷ 2 to 3 ∷ 3 to 1 ∷ []);
+      expected =
+          reported (record {
+            scope = SteadyStateSafe;
+            reasons = [];
+            feedback = [];
+            pattern = Nothing;
+            marks = 0 ∷ 0 ∷ 0 ∷ [];
+            projected = [];
+            labels = unsettled ∷ unsettled ∷ unsettled ∷ [];
+          });
+    }
+    -- a wrong turn: two-way dust 2 ⇄ 3 is a cycle, so lamp 4 behind it has no label and no reason
+    ∷ record {
+      asked = build (lever 1 ∷ wire 2 ∷ wire 3 ∷ lamp 4 ∷ []) (1 to 2 ∷ 2 to 3 ∷ 3 to 2 ∷ 3 to 4 ∷ []);
+      expected =
+          reported (record {
+            scope = SteadyStateSafe;
+            reasons = [];
+            feedback = [];
+            pattern = Nothing;
+            marks = 1 ∷ 1 ∷ 1 ∷ 1 ∷ [];
+            projected = straight 1 2 0 (1 ∷ 2 ∷ []) ∷ straight 2 3 0 (2 ∷ 3 ∷ []) ∷ straight 3 2 0 (3 ∷ 2 ∷ []) ∷ straight 3 4 0 (3 ∷ 4 ∷ []) ∷ [];
+            labels = between 0 0 ∷ unsettled ∷ unsettled ∷ unsettled ∷ [];
+          });
+    }
+    -- a wrong turn: a lone self-edge is a cycle, but no Feedback
+    ∷ record {
+      asked = build (torch 1 ∷ []) (1 to 1 ∷ []);
+      expected =
+          reported (record {
+            scope = SteadyStateSafe;
+            reasons = [];
+            feedback = [];
+            pattern = DelayedPath;
+            marks = 1 ∷ [];
+            projected = record { source = 1; sink = 1; inverted = 1; minimum = 1; maximum = 1; path = 1 ∷ 1 ∷ [] } ∷ [];
+            labels = unsettled ∷ [];
+          });
+    }
+    -- off 10, on 12, off 14: High, width 2
+    ∷ record { asked = trace (pulseAt 10 12 14) []; expected = high2 2 0 }
+    -- first tick 20: same
+    ∷ record { asked = trace (pulseAt 20 12 14) []; expected = high2 2 0 }
+    -- third tick 12: no pulse
+    ∷ record { asked = trace (pulseAt 10 12 12) []; expected = judged [] }
+    -- width 2 against 2 to 2: IntentionalPulse; against 3 to 2: HazardConfirmed
+    ∷ record { asked = trace (pulseAt 10 12 14) (intentional 2 2); expected = high2 4 6 }
+    ∷ record { asked = trace (pulseAt 10 12 14) (intentional 3 2); expected = high2 3 7 }
+    -- a wrong turn: Stable does not pass a pulse of the wanted level
+    ∷ record { asked = trace (pulseAt 10 12 14) (stable 1); expected = high2 3 4 }
+    ∷ []
+
+builds-hold : map (λ r. answer (r .asked)) rows ≡ map (λ r. r .expected) rows
+unfolding answer report judgedOf any keep count from indices insert rising once saturatingAdd kindRow delayBy wordDelay isDevice inCount outCount reach settled sameComponent
+    edgesOf row componentDelay byId rowAt delayAt noIncoming settledSources pathsWithin pathsTo delaySum best bestSum label
+    inFeedback feedback feedbackReason ownReason unequalAt unequalReason risingIds unequalReasonsBy unequalReasons temporalReasons reasons scope pattern labels
+    compressed marks retained firstEdges next chain chainFrom beforeLast lastOf flips invertsAt projectedBy projectedAlong projected
+    isPulse pulseOf pulsesIn eventComponents pulses intentOf designIntent classify findingOf findings flatMap
+builds-hold = refl
