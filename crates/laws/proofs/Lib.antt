@@ -3,3 +3,7 @@ pub mod PlainSums
 pub mod Chains
 pub mod Projection
 pub mod PathParts
+pub mod StoredEdges
+pub mod Reordering
+pub mod UnequalReasons
+pub mod Room

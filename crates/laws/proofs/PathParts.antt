@@ -8,7 +8,7 @@ use native.Mathlib.Omega.{arith}
 use lib.Dec.{leb, ltb, leb→le, ltb→lt, le→leb, lt→ltb}
 use lib.ListN.{length, getD, take, drop, length-append, length-map, List·getD-append}
 use lib.Seq.{take-at, drop-at}
-use Rattle.rules.specs.Lists.{writtenFrom, written, from, indices}
+use Rattle.rules.specs.Lists.{written}
 use Rattle.rules.specs.Projection.{Projected, startsFrom, pathLength, pathIds, projectedPath}
 use Rattle.rules.proofs.Lists.{tests, chosen, not-chosen}
 use Rattle.rules.proofs.Written.{written-parts, written-at, written-length}
@@ -70,12 +70,6 @@ size-at k [] = refl
 size-at zero (p ∷ ps) = refl
 size-at (suc k) (p ∷ ps) = size-at k ps
 
--- a list is what its entries are, index by index
-map-from : {A : Type 0} (f : ℕ → A) (i : ℕ) (l : List A) (d : A) → ((j k : ℕ) → j ≡ i + k → k < length l → f j ≡ getD l k d) → map f (from i (length l)) ≡ l
-unfolding from
-map-from f i [] d h = refl
-map-from f i (x ∷ l) d h = ap₂ _∷_ (h i 0 (omega arith) (omega arith)) (map-from f (suc i) l d (λ j k e q. h j (suc k) (omega arith) (omega arith)))
-
 module _ (oldp olds oldl : List ℕ) (ps : List Projected) where
   abbrev paths : List ℕ
   paths = written oldp (pathIds ps)
@@ -114,10 +108,3 @@ module _ (oldp olds oldl : List ℕ) (ps : List Projected) where
 
           fits : getD starts k 0 + getD lengths k 0 ≤ length paths
           fits = omega (arith, start, size, ap length whole, length-append (r .0) (here ++ (r .1 ++ rest)), length-append here (r .1 ++ rest))
-
-  -- and so are all of them, in order
-  pub paths-back : map (projectedPath (written oldp (pathIds ps)) (written olds (startsFrom 0 ps)) (written oldl (map pathLength ps))) (indices (length ps)) ≡ map (λ p. p .path) ps
-  unfolding indices
-  paths-back =
-      subst (λ n. map (projectedPath paths starts lengths) (from 0 n) ≡ map pathOf ps) (length-map ps pathOf)
-      (map-from (projectedPath paths starts lengths) 0 (map pathOf ps) [] (λ j k e h. ap (projectedPath paths starts lengths) (e ∙ zero-add k) ∙ path-back k (omega (arith, length-map ps pathOf))))

@@ -111,7 +111,7 @@ module _ (cs : List Component) (es : List Edge) where
       let k = keep-out (startsAt (r .0)) es (r .2) in
       (k .0, Memᴰ·cast (eqb→eq (src e) (r .0) (k .1)) (r .1))
 
-  first-kept : (e : Edge) → List·Memᴰ e (firstEdges cs es) → T (compressed cs es (src e)) → ⊥
+  pub first-kept : (e : Edge) → List·Memᴰ e (firstEdges cs es) → T (compressed cs es (src e)) → ⊥
   first-kept e m = retained-out (src e) (first-edges-out e m .1)
 
   path-ids-parts : (fs : List Edge) → length (pathIds (map (projectedAlong cs es) fs)) ≡ 2 * length fs + length (flatMap (between cs es) fs)
@@ -155,7 +155,7 @@ module _ (cs : List Component) (es : List Edge) where
 
   -- every edge ends at a component
   module _ (known : (e : Edge) → List·Memᴰ e es → List·Memᴰ (dst e) (map idOf cs)) where
-    chain-ids : (e : Edge) → List·Memᴰ e es → (y : ℕ) → List·Memᴰ y (between cs es e ++ (lastOf (chainFrom cs es e) ∷ [])) → List·Memᴰ y (map idOf cs)
+    pub chain-ids : (e : Edge) → List·Memᴰ e es → (y : ℕ) → List·Memᴰ y (between cs es e ++ (lastOf (chainFrom cs es e) ∷ [])) → List·Memᴰ y (map idOf cs)
     chain-ids e m y n = let r = Memᴰ·of-map dst es (chain-into cs es e m y n) in Memᴰ·cast (sym (r .2)) (known (r .0) (r .1))
 
     -- the paths of all projected edges have at most two ids for each edge and one for each component

@@ -1,0 +1,138 @@
+-- Every list of an accepted scene fits the length that it needs, and projected delays are plain sums. Assumes nothing.
+use mathlib.Core.Bool.{Bool, true, false, not, cond, _&&_}
+use mathlib.Core.List.{List, [], _∷_, _++_, map, flatMap, List·Memᴰ, List·Memᴰ·cases-cons, Memᴰ·cast, Memᴰ·append-left}
+use mathlib.Core.Path.{_≡_, refl, sym, subst, _∙_}
+use mathlib.Core.Logic.{⊎-elim}
+use Prim.Native.Nat.{ℕ, zero, suc, _+_, _*_, _≤_}
+use native.Mathlib.Omega.{arith}
+use lib.Dec.{eqb}
+use lib.ListN.{length, length-map, length-append}
+use Rattle.rules.specs.Lists.{keep, count}
+use Rattle.rules.specs.Delay.{cap}
+use Rattle.rules.specs.Kinds.{isDevice}
+use Rattle.rules.specs.Scene.{EndsListed, Component, Connection, DistinctIds, idOf, isEdge, ends, edgesOf, row, delayAt}
+use Rattle.rules.specs.Graph.{Edge, src, dst, sameComponent}
+use Rattle.rules.specs.Paths.{delaySum, total, label}
+use Rattle.rules.specs.Reasons.{Reason, statefulOrMechanical, statefulOrMechanicalDevice, lockedRepeater, inFeedback, feedback, feedbackReason, ownReason, unequalAt, unequalReason, risingIds, unequalReasonsBy, unequalReasons, temporalReasons, reasons, labels}
+use Rattle.rules.specs.Projection.{compressed, marks, firstEdges, chainFrom, beforeLast, projected, pathIds}
+use Rattle.rules.specs.Describe.{timedEdge, timedEdges, timedDevice, deviceComponents, devices, connectionEvidence, deviceEvidence, evidence}
+use Rattle.rules.specs.declared.kinds.KindRow.{KindRow}
+use Rattle.rules.proofs.Distinct.{pigeon}
+use Rattle.rules.proofs.Permutations.{keep-length, perm-length}
+use Rattle.rules.proofs.Counts.{count-under, count-every}
+use Rattle.rules.proofs.Sorting.{rising-ids-perm}
+use Rattle.laws.proofs.PlainSums.{capped-total, total-bound, delay-bound}
+use Rattle.laws.proofs.Chains.{chain-before, chain-once, between, chain-into}
+use Rattle.laws.proofs.Projection.{first-edges-out, first-kept, chain-ids, projected-count, path-ids-count}
+
+keep-fewer : {A : Type 0} (f : A → Bool) (l : List A) → length (keep f l) ≤ length l
+keep-fewer f l = omega (arith, keep-length f l, count-under f (λ x. true) l (λ x m t. tt), count-every l)
+
+module _ (cs : List Component) (ns : List Connection) where
+  -- the edges are no more than the connections
+  pub edges-fit : length (edgesOf ns) ≤ length ns
+  unfolding edgesOf
+  edges-fit = omega (arith, length-map (keep isEdge ns) ends, keep-fewer isEdge ns)
+
+  -- list 0 needs M, list 1 N, list 2 M + N
+  pub timed-edges-fit : length (timedEdges cs ns) ≤ length ns
+  unfolding timedEdges
+  timed-edges-fit = omega (arith, length-map (keep isEdge ns) (timedEdge (delayAt cs) (delayAt cs) cs), keep-fewer isEdge ns)
+
+  pub device-components-fit : length (deviceComponents cs) ≤ length cs
+  unfolding deviceComponents
+  device-components-fit = keep-fewer (λ c. isDevice (row c)) cs
+
+  pub devices-fit : length (devices cs) ≤ length cs
+  unfolding devices
+  devices-fit = omega (arith, length-map (deviceComponents cs) timedDevice, device-components-fit)
+
+  pub evidence-fit : length (evidence cs ns) ≤ length ns + length cs
+  unfolding evidence
+  evidence-fit = omega (
+    arith,
+    length-append (map connectionEvidence ns) (map deviceEvidence (deviceComponents cs)),
+    length-map ns connectionEvidence,
+    length-map (deviceComponents cs) deviceEvidence,
+    device-components-fit,
+  )
+
+module _ (cs : List Component) (es : List Edge) where
+  own-one : (c : Component) → length (ownReason c) ≤ 1
+  unfolding ownReason
+  own-one c = go (statefulOrMechanical (row c .node)) (eqb (c .kind) 10 && eqb (c .locked) 1)
+    where
+      go : (a b : Bool) → length (cond a (statefulOrMechanicalDevice (c .id) (c .kind) ∷ []) (cond b (lockedRepeater (c .id) ∷ []) [])) ≤ 1
+      go true b = omega arith
+      go false true = omega arith
+      go false false = omega arith
+
+  own-fit : (l : List Component) → length (flatMap ownReason l) ≤ length l
+  unfolding flatMap
+  own-fit [] = omega arith
+  own-fit (c ∷ l) = omega (arith, length-append (ownReason c) (flatMap ownReason l), own-one c, own-fit l)
+
+  loop-one : (l : List ℕ) → length (feedbackReason l) ≤ 1
+  unfolding feedbackReason
+  loop-one [] = omega arith
+  loop-one (x ∷ l) = omega arith
+
+  -- list 3 needs 2N + 1, list 4 N, lists 5 and 8 exactly N
+  pub reasons-fit : length (reasons cs es) ≤ 2 * length cs + 1
+  unfolding reasons temporalReasons unequalReasons unequalReasonsBy
+  reasons-fit = omega (
+    arith,
+    length-append (feedbackReason (feedback cs es) ++ flatMap ownReason cs) (map (unequalReason es d d) (keep (unequalAt es d d) (risingIds cs))),
+    length-append (feedbackReason (feedback cs es)) (flatMap ownReason cs),
+    loop-one (feedback cs es),
+    own-fit cs,
+    length-map (keep (unequalAt es d d) (risingIds cs)) (unequalReason es d d),
+    keep-fewer (unequalAt es d d) (risingIds cs),
+    perm-length (rising-ids-perm cs),
+    length-map cs idOf,
+  )
+    where
+      d : ℕ → ℕ
+      d = delayAt cs
+
+  pub feedback-fit : length (feedback cs es) ≤ length cs
+  unfolding feedback
+  feedback-fit = omega (arith, length-map (keep (inFeedback cs (sameComponent es)) cs) idOf, keep-fewer (inFeedback cs (sameComponent es)) cs)
+
+  pub marks-fit : length (marks cs es) ≡ length cs
+  unfolding marks
+  marks-fit = length-map cs _
+
+  pub labels-fit : length (labels cs es) ≡ length cs
+  unfolding labels
+  labels-fit = length-map (map idOf cs) (label es (delayAt cs) (delayAt cs)) ∙ length-map cs idOf
+
+  module _ (listed : EndsListed cs es) (distinct : DistinctIds cs) where
+    known : (e : Edge) → List·Memᴰ e es → List·Memᴰ (dst e) (map idOf cs)
+    known e m = listed e m .1
+
+    -- list 6 needs M and list 7 2M + N, for M connections with these edges
+    pub projected-fit : (m : ℕ) → length es ≤ m → length (projected cs es) ≤ m
+    projected-fit m h = omega (arith, projected-count cs es distinct)
+
+    pub path-ids-fit : (m : ℕ) → length es ≤ m → length (pathIds (projected cs es)) ≤ 2 * m + length cs
+    path-ids-fit m h = omega (arith, path-ids-count cs es known distinct)
+
+    module _ (e : Edge) (m : List·Memᴰ e (firstEdges cs es)) where
+      -- before its last component a projected path has no more components than the scene
+      before-length : length (beforeLast (chainFrom cs es e)) ≤ length cs
+      before-length = omega (arith, pigeon (beforeLast (chainFrom cs es e)) (map idOf cs) (chain-once cs es e k (first-kept cs es e m)) inside, length-map cs idOf)
+        where
+          k : List·Memᴰ e es
+          k = first-edges-out cs es e m .0
+
+          inside : (x : ℕ) → List·Memᴰ x (beforeLast (chainFrom cs es e)) → List·Memᴰ x (map idOf cs)
+          inside x n =
+              ⊎-elim (λ p. Memᴰ·cast p (listed e k .0)) (λ q. chain-ids cs es known e k x (Memᴰ·append-left _ q)) (List·Memᴰ·cases-cons (subst (List·Memᴰ x) (chain-before cs es e) n))
+
+      -- the largest projected delay is that of all components at 255 each, so it is a plain sum where that is within the cap
+      pub projected-total : total (delayAt cs) (beforeLast (chainFrom cs es e)) ≤ length cs * 255
+      projected-total = let h = before-length in omega (arith, total-bound (delayAt cs) 255 (delay-bound cs) (beforeLast (chainFrom cs es e)))
+
+      pub projected-plain : length cs * 255 ≤ cap → delaySum (delayAt cs) (beforeLast (chainFrom cs es e)) ≡ total (delayAt cs) (beforeLast (chainFrom cs es e))
+      projected-plain h = omega (arith, projected-total, capped-total (delayAt cs) (beforeLast (chainFrom cs es e)))

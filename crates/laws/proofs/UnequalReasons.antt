@@ -1,0 +1,60 @@
+-- Demand 3, second half: in every accepted scene an unequal-delay reason names a component exactly when at least two edges end there and the
+-- smallest and the largest plain sum over all paths to it differ. It shows those two sums. Assumes nothing.
+use mathlib.Core.List.{List, List·Memᴰ}
+use mathlib.Core.Path.{_≡_, sym, subst, _∙_}
+use Prim.Native.Nat.{ℕ, _-_, _*_, _≤_}
+use native.Mathlib.Omega.{arith}
+use lib.ListN.{length}
+use Rattle.rules.specs.Delay.{cap}
+use Rattle.rules.specs.Scene.{Component, ComponentLists, ConnectionLists, componentsOf, connectionsOf, edgesOf, delayAt}
+use Rattle.rules.specs.Graph.{Edge}
+use Rattle.rules.specs.Paths.{delaySum, total, PathTo, Extreme}
+use Rattle.rules.specs.Reasons.{Reason, unequalReconvergentDelay, reasons, UnequalDelay}
+use Rattle.rules.specs.Refusals.{SceneLimits, Output, sceneLimits, checkScene}
+use Rattle.rules.specs.declared.answers.Checked.the-variants.{Accepted}
+use Rattle.rules.proofs.ReasonLaws.{unequal→, →unequal}
+use Rattle.rules.proofs.Acceptance.{AcceptedScene, accepted→, components-length, edge-ends}
+use Rattle.laws.proofs.PlainSums.{path-plain}
+
+-- sums that agree on every path have the same extremes
+extreme-same : {Good : ℕ → ℕ → Type 0} {es : List Edge} {s t : List ℕ → ℕ} {v n : ℕ} → ((p : List ℕ) → PathTo es v p → s p ≡ t p) → Extreme Good es s v n → Extreme Good es t v n
+extreme-same {Good} {n = n} h x =
+    record {
+      path = x .path;
+      is-path = x .is-path;
+      has-sum = sym (h (x .path) (x .is-path)) ∙ x .has-sum;
+      bounds = λ p P. subst (Good n) (h p P) (x .bounds p P);
+    }
+
+unequal-same : {cs : List Component} {es : List Edge} {s t : List ℕ → ℕ} {v low high : ℕ} → ((p : List ℕ) → PathTo es v p → s p ≡ t p) → UnequalDelay cs es s s v low high → UnequalDelay cs es t t v low high
+unequal-same h u =
+    record {
+      component = u .component;
+      incoming = u .incoming;
+      smallest = extreme-same h (u .smallest);
+      largest = extreme-same h (u .largest);
+      differ = u .differ;
+    }
+
+module _ (limits : SceneLimits) (l : ComponentLists) (m : ConnectionLists) (outputs : List Output) (accepted : checkScene limits l m outputs ≡ Accepted) (room : (limits .components - 1) * 255 ≤ cap) where
+  abbrev cs : List Component
+  cs = componentsOf l
+
+  abbrev es : List Edge
+  es = edgesOf (connectionsOf m)
+
+  facts : AcceptedScene limits l m outputs
+  facts = accepted→ limits l m outputs accepted
+
+  plain : (v : ℕ) (p : List ℕ) → PathTo es v p → delaySum (delayAt cs) p ≡ total (delayAt cs) p
+  plain v p P = path-plain cs es (edge-ends facts) (limits .components) (omega (arith, facts .components-few, components-length l)) room P
+
+  pub unequal-reason→ : (v low high : ℕ) → List·Memᴰ (unequalReconvergentDelay v low high) (reasons cs es) → UnequalDelay cs es (total (delayAt cs)) (total (delayAt cs)) v low high
+  unequal-reason→ v low high n = unequal-same (plain v) (unequal→ cs es v low high n)
+
+  pub →unequal-reason : (v low high : ℕ) → UnequalDelay cs es (total (delayAt cs)) (total (delayAt cs)) v low high → List·Memᴰ (unequalReconvergentDelay v low high) (reasons cs es)
+  →unequal-reason v low high u = →unequal cs es v low high (unequal-same (λ p P. sym (plain v p P)) u)
+
+-- the base's limit leaves room for every sum
+pub base-room : (sceneLimits .components - 1) * 255 ≤ cap
+base-room = omega arith
