@@ -8,7 +8,7 @@ use native.Mathlib.Omega.{arith}
 use lib.Dec.{T, eqb→eq}
 use lib.ListN.{length, getD, length-append, length-map}
 use Rattle.rules.specs.Lists.{keep, Distinct}
-use Rattle.rules.specs.Graph.{Edge, _⟶_, src, dst, startsAt, endsAt, inCount, outCount}
+use Rattle.rules.specs.Graph.{Edge, _⟶_, sourceOf, sinkOf, startsAt, endsAt, inCount, outCount}
 use Rattle.rules.specs.Scene.{Component}
 use Rattle.rules.specs.Projection.{compressed, next, chain, chainFrom, beforeLast, lastOf}
 use Rattle.rules.proofs.Lists.{tests, keep-in, keep-out, eq-test}
@@ -34,9 +34,9 @@ pub data Joined (es : List Edge) : List ℕ → Type 0 where
   alone : {v : ℕ} → Joined es (v ∷ [])
   along : {u v : ℕ} {l : List ℕ} → List·Memᴰ (u ⟶ v) es → Joined es (v ∷ l) → Joined es (u ∷ v ∷ l)
 
-joined-into : {es : List Edge} {u : ℕ} {l : List ℕ} → Joined es (u ∷ l) → (y : ℕ) → List·Memᴰ y l → List·Memᴰ y (map dst es)
+joined-into : {es : List Edge} {u : ℕ} {l : List ℕ} → Joined es (u ∷ l) → (y : ℕ) → List·Memᴰ y l → List·Memᴰ y (map sinkOf es)
 joined-into alone y m = absurd (List·Memᴰ·not-nil m)
-joined-into (along k j) y m = ⊎-elim (λ p. Memᴰ·cast p (Memᴰ·map dst k)) (joined-into j y) (List·Memᴰ·cases-cons m)
+joined-into (along k j) y m = ⊎-elim (λ p. Memᴰ·cast p (Memᴰ·map sinkOf k)) (joined-into j y) (List·Memᴰ·cases-cons m)
 
 -- Single edges
 
@@ -51,7 +51,7 @@ head-in (x ∷ l) d h = List·Memᴰ·head refl
 
 module _ (es : List Edge) where
   -- two edges into a component with one incoming edge are the same
-  pub one-into : (v : ℕ) → inCount es v ≡ 1 → (e f : Edge) → List·Memᴰ e es → List·Memᴰ f es → dst e ≡ v → dst f ≡ v → e ≡ f
+  pub one-into : (v : ℕ) → inCount es v ≡ 1 → (e f : Edge) → List·Memᴰ e es → List·Memᴰ f es → sinkOf e ≡ v → sinkOf f ≡ v → e ≡ f
   unfolding inCount
   one-into v h e f m n p q =
       single (keep (endsAt v) es) e f (keep-length (endsAt v) es ∙ h) (keep-in (endsAt v) m (eq-test p)) (keep-in (endsAt v) n (eq-test q))
@@ -59,12 +59,12 @@ module _ (es : List Edge) where
   -- an edge leads from a component with one outgoing edge to the next
   pub next-edge : (v : ℕ) → outCount es v ≡ 1 → List·Memᴰ (v ⟶ next es v) es
   unfolding next outCount
-  next-edge v h = let r = Memᴰ·of-map dst (keep (startsAt v) es) (head-in (map dst (keep (startsAt v) es)) v one) in at (r .0) (keep-out (startsAt v) es (r .1)) (r .2)
+  next-edge v h = let r = Memᴰ·of-map sinkOf (keep (startsAt v) es) (head-in (map sinkOf (keep (startsAt v) es)) v one) in at (r .0) (keep-out (startsAt v) es (r .1)) (r .2)
     where
-      one : length (map dst (keep (startsAt v) es)) ≡ 1
-      one = length-map (keep (startsAt v) es) dst ∙ keep-length (startsAt v) es ∙ h
+      one : length (map sinkOf (keep (startsAt v) es)) ≡ 1
+      one = length-map (keep (startsAt v) es) sinkOf ∙ keep-length (startsAt v) es ∙ h
 
-      at : (e : Edge) → List·Memᴰ e es × T (startsAt v e) → dst e ≡ next es v → List·Memᴰ (v ⟶ next es v) es
+      at : (e : Edge) → List·Memᴰ e es × T (startsAt v e) → sinkOf e ≡ next es v → List·Memᴰ (v ⟶ next es v) es
       at (a ⟶ b) k e = Memᴰ·cast (ap₂ _⟶_ (sym (eqb→eq a v (k .1))) (sym e)) (k .0)
 
 -- The walk, through components that have one incoming and one outgoing edge
@@ -88,7 +88,7 @@ module _ (es : List Edge) (through : ℕ → Bool) where
 
   -- f leads to z, and i components lie between
   data Met (f : Edge) : ℕ → ℕ → Type 0 where
-    first : {z : ℕ} → dst f ≡ z → Met f z 0
+    first : {z : ℕ} → sinkOf f ≡ z → Met f z 0
     further : {y z i : ℕ} → Met f y i → T (through y) → next es y ≡ z → Met f z (suc i)
 
   all-through : {k v w : ℕ} {l : List ℕ} → Goes k v l w → (y : ℕ) → List·Memᴰ y l → T (through y)
@@ -123,20 +123,20 @@ module _ (es : List Edge) (through : ℕ → Bool) where
     all-joined (goes {v} t g) u m = along m (all-joined g v (next-edge es v (one-out v t)))
 
     -- no edge that a walk begins with enters z beside one that leaves a component gone through
-    begins : {f : Edge} {z : ℕ} (y : ℕ) → List·Memᴰ f es → (T (through (src f)) → ⊥) → T (through z) → dst f ≡ z → T (through y) → next es y ≡ z → ⊥
-    begins {f} {z} y m kept t p s q = kept (subst (λ x. T (through x)) (ap src (one-into es z (one-in z t) (y ⟶ next es y) f (next-edge es y (one-out y s)) m q p)) s)
+    begins : {f : Edge} {z : ℕ} (y : ℕ) → List·Memᴰ f es → (T (through (sourceOf f)) → ⊥) → T (through z) → sinkOf f ≡ z → T (through y) → next es y ≡ z → ⊥
+    begins {f} {z} y m kept t p s q = kept (subst (λ x. T (through x)) (ap sourceOf (one-into es z (one-in z t) (y ⟶ next es y) f (next-edge es y (one-out y s)) m q p)) s)
 
     -- a component gone through says which edge the walk began with, and how far it has come
-    met-once : {f g : Edge} → List·Memᴰ f es → List·Memᴰ g es → (T (through (src f)) → ⊥) → (T (through (src g)) → ⊥) → {z i j : ℕ} → T (through z) → Met f z i → Met g z j → (f ≡ g) × (i ≡ j)
+    met-once : {f g : Edge} → List·Memᴰ f es → List·Memᴰ g es → (T (through (sourceOf f)) → ⊥) → (T (through (sourceOf g)) → ⊥) → {z i j : ℕ} → T (through z) → Met f z i → Met g z j → (f ≡ g) × (i ≡ j)
     met-once {f} {g} m n a b {z} t (first p) (first q) = (one-into es z (one-in z t) f g m n p q, refl)
     met-once m n a b t (first p) (further {y} c s q) = absurd (begins y m a t p s q)
     met-once m n a b t (further {y} c s q) (first p) = absurd (begins y n b t p s q)
     met-once {f} {g} m n a b {z} t (further {y} c s q) (further {y = y′} {i = j} c′ s′ q′) =
-        let e = ap src (one-into es z (one-in z t) (y ⟶ next es y) (y′ ⟶ next es y′) (next-edge es y (one-out y s)) (next-edge es y′ (one-out y′ s′)) q q′) in
+        let e = ap sourceOf (one-into es z (one-in z t) (y ⟶ next es y) (y′ ⟶ next es y′) (next-edge es y (one-out y s)) (next-edge es y′ (one-out y′ s′)) q q′) in
         let r = met-once m n a b s c (subst (λ x. Met g x j) (sym e) c′) in
         (r .0, ap suc (r .1))
 
-    all-once : {f : Edge} {k v w i : ℕ} {l : List ℕ} → List·Memᴰ f es → (T (through (src f)) → ⊥) → Goes k v l w → Met f v i → Distinct l
+    all-once : {f : Edge} {k v w i : ℕ} {l : List ℕ} → List·Memᴰ f es → (T (through (sourceOf f)) → ⊥) → Goes k v l w → Met f v i → Distinct l
     all-once m kept spent c = tt
     all-once m kept (rests h) c = tt
     all-once m kept (goes {v} t g) c =
@@ -145,7 +145,7 @@ module _ (es : List Edge) (through : ℕ → Bool) where
 module _ (cs : List Component) (es : List Edge) where
   -- the components strictly between the ends of a chain
   unfoldable pub between : Edge → List ℕ
-  between e = beforeLast (chain (length es) es (compressed cs es) (dst e))
+  between e = beforeLast (chain (length es) es (compressed cs es) (sinkOf e))
 
   pub compressed-in : (v : ℕ) → T (compressed cs es v) → inCount es v ≡ 1
   unfolding compressed
@@ -155,29 +155,29 @@ module _ (cs : List Component) (es : List Edge) where
   unfolding compressed
   compressed-out v t = eqb→eq (outCount es v) 1 (search tests)
 
-  goes-between : (e : Edge) → Goes es (compressed cs es) (length es) (dst e) (between e) (lastOf (chainFrom cs es e)) × (chainFrom cs es e ≡ src e ∷ (between e ++ (lastOf (chainFrom cs es e) ∷ [])))
+  goes-between : (e : Edge) → Goes es (compressed cs es) (length es) (sinkOf e) (between e) (lastOf (chainFrom cs es e)) × (chainFrom cs es e ≡ sourceOf e ∷ (between e ++ (lastOf (chainFrom cs es e) ∷ [])))
   unfolding chainFrom between
-  goes-between e = at (walked es (compressed cs es) (length es) (dst e))
+  goes-between e = at (walked es (compressed cs es) (length es) (sinkOf e))
     where
-      at : ((l : List ℕ) × (w : ℕ) × Goes es (compressed cs es) (length es) (dst e) l w × (chain (length es) es (compressed cs es) (dst e) ≡ l ++ (w ∷ [])))
-          → Goes es (compressed cs es) (length es) (dst e) (between e) (lastOf (chainFrom cs es e)) × (chainFrom cs es e ≡ src e ∷ (between e ++ (lastOf (chainFrom cs es e) ∷ [])))
-      at r = rw (r .3, before-appended (r .0) (r .1), last-appended (src e ∷ r .0) (r .1)) (r .2, refl)
+      at : ((l : List ℕ) × (w : ℕ) × Goes es (compressed cs es) (length es) (sinkOf e) l w × (chain (length es) es (compressed cs es) (sinkOf e) ≡ l ++ (w ∷ [])))
+          → Goes es (compressed cs es) (length es) (sinkOf e) (between e) (lastOf (chainFrom cs es e)) × (chainFrom cs es e ≡ sourceOf e ∷ (between e ++ (lastOf (chainFrom cs es e) ∷ [])))
+      at r = rw (r .3, before-appended (r .0) (r .1), last-appended (sourceOf e ∷ r .0) (r .1)) (r .2, refl)
 
-  pub chain-parts : (e : Edge) → chainFrom cs es e ≡ src e ∷ (between e ++ (lastOf (chainFrom cs es e) ∷ []))
+  pub chain-parts : (e : Edge) → chainFrom cs es e ≡ sourceOf e ∷ (between e ++ (lastOf (chainFrom cs es e) ∷ []))
   chain-parts e = goes-between e .1
 
   pub chain-length : (e : Edge) → length (chainFrom cs es e) ≡ 2 + length (between e)
   chain-length e = omega (arith, ap length (chain-parts e), length-append (between e) (lastOf (chainFrom cs es e) ∷ []))
 
-  pub chain-before : (e : Edge) → beforeLast (chainFrom cs es e) ≡ src e ∷ between e
-  chain-before e = ap beforeLast (chain-parts e) ∙ before-appended (src e ∷ between e) (lastOf (chainFrom cs es e))
+  pub chain-before : (e : Edge) → beforeLast (chainFrom cs es e) ≡ sourceOf e ∷ between e
+  chain-before e = ap beforeLast (chain-parts e) ∙ before-appended (sourceOf e ∷ between e) (lastOf (chainFrom cs es e))
 
   -- the components strictly between the ends are compressed
   pub chain-between : (e : Edge) (y : ℕ) → List·Memᴰ y (between e) → T (compressed cs es y)
   chain-between e = all-through es (compressed cs es) (goes-between e .0)
 
   -- where there are any, the first edge ends at a compressed component
-  pub chain-enters : (e : Edge) (y : ℕ) → List·Memᴰ y (between e) → T (compressed cs es (dst e))
+  pub chain-enters : (e : Edge) (y : ℕ) → List·Memᴰ y (between e) → T (compressed cs es (sinkOf e))
   chain-enters e = enters es (compressed cs es) (goes-between e .0)
 
   -- every two neighbours of a chain are joined by an edge
@@ -185,27 +185,27 @@ module _ (cs : List Component) (es : List Edge) where
   chain-edges (a ⟶ b) m = rw (chain-parts (a ⟶ b)) (all-joined es (compressed cs es) compressed-in compressed-out (goes-between (a ⟶ b) .0) a m)
 
   -- an edge ends at each component after the first
-  pub chain-into : (e : Edge) → List·Memᴰ e es → (y : ℕ) → List·Memᴰ y (between e ++ (lastOf (chainFrom cs es e) ∷ [])) → List·Memᴰ y (map dst es)
+  pub chain-into : (e : Edge) → List·Memᴰ e es → (y : ℕ) → List·Memᴰ y (between e ++ (lastOf (chainFrom cs es e) ∷ [])) → List·Memᴰ y (map sinkOf es)
   chain-into e m = joined-into (subst (Joined es) (chain-parts e) (chain-edges e m))
 
-  pub between-once : (e : Edge) → List·Memᴰ e es → (T (compressed cs es (src e)) → ⊥) → Distinct (between e)
+  pub between-once : (e : Edge) → List·Memᴰ e es → (T (compressed cs es (sourceOf e)) → ⊥) → Distinct (between e)
   between-once e m kept = all-once es (compressed cs es) compressed-in compressed-out m kept (goes-between e .0) (first refl)
 
   -- no component stands twice before the last
-  pub chain-once : (e : Edge) → List·Memᴰ e es → (T (compressed cs es (src e)) → ⊥) → Distinct (beforeLast (chainFrom cs es e))
-  chain-once e m kept = rw (chain-before e) (λ n. kept (chain-between e (src e) n), between-once e m kept)
+  pub chain-once : (e : Edge) → List·Memᴰ e es → (T (compressed cs es (sourceOf e)) → ⊥) → Distinct (beforeLast (chainFrom cs es e))
+  chain-once e m kept = rw (chain-before e) (λ n. kept (chain-between e (sourceOf e) n), between-once e m kept)
 
   -- chains with a component in common between their ends begin with the same edge
-  pub chain-apart : (e f : Edge) → List·Memᴰ e es → List·Memᴰ f es → (T (compressed cs es (src e)) → ⊥) → (T (compressed cs es (src f)) → ⊥)
+  pub chain-apart : (e f : Edge) → List·Memᴰ e es → List·Memᴰ f es → (T (compressed cs es (sourceOf e)) → ⊥) → (T (compressed cs es (sourceOf f)) → ⊥)
       → (y : ℕ) → List·Memᴰ y (between e) → List·Memᴰ y (between f) → e ≡ f
   chain-apart e f m n a b y i j =
       met-once es (compressed cs es) compressed-in compressed-out m n a b (chain-between e y i) (all-met es (compressed cs es) (goes-between e .0) (first refl) y i .1) (all-met es (compressed cs es) (goes-between f .0) (first refl) y j .1) .0
 
   -- the walk does not stop for lack of steps: the last component is retained
-  pub chain-ends : (e : Edge) → List·Memᴰ e es → (T (compressed cs es (src e)) → ⊥) → T (compressed cs es (lastOf (chainFrom cs es e))) → ⊥
+  pub chain-ends : (e : Edge) → List·Memᴰ e es → (T (compressed cs es (sourceOf e)) → ⊥) → T (compressed cs es (lastOf (chainFrom cs es e))) → ⊥
   chain-ends e m kept t =
-      omega (arith, used es (compressed cs es) (goes-between e .0) t, pigeon (src e ∷ between e) (map src es) (subst Distinct (chain-before e) (chain-once e m kept)) leaves, length-map es src)
+      omega (arith, used es (compressed cs es) (goes-between e .0) t, pigeon (sourceOf e ∷ between e) (map sourceOf es) (subst Distinct (chain-before e) (chain-once e m kept)) leaves, length-map es sourceOf)
     where
-      leaves : (y : ℕ) → List·Memᴰ y (src e ∷ between e) → List·Memᴰ y (map src es)
+      leaves : (y : ℕ) → List·Memᴰ y (sourceOf e ∷ between e) → List·Memᴰ y (map sourceOf es)
       leaves y n =
-          ⊎-elim (λ p. Memᴰ·cast p (Memᴰ·map src m)) (λ k. Memᴰ·map src (next-edge es y (compressed-out y (chain-between e y k)))) (List·Memᴰ·cases-cons n)
+          ⊎-elim (λ p. Memᴰ·cast p (Memᴰ·map sourceOf m)) (λ k. Memᴰ·map sourceOf (next-edge es y (compressed-out y (chain-between e y k)))) (List·Memᴰ·cases-cons n)

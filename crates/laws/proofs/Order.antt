@@ -2,15 +2,16 @@
 use mathlib.Core.List.{List, map, List·Permᴰ, Memᴰ·cast, Memᴰ·map, Memᴰ·of-map, Permᴰ·symm}
 use mathlib.Core.Path.{_≡_, sym, fun-ext}
 use Prim.Native.Nat.{ℕ, min, max}
-use Rattle.rules.specs.Graph.{Edge, startsAt, endsAt, reach, settled, sameComponent, inCount, outCount, Settled}
-use Rattle.rules.specs.Paths.{pathsTo, delaySum, bestSum, label, PathTo, only, then}
-use Rattle.rules.specs.Scene.{Component, delayAt}
-use Rattle.rules.specs.Reasons.{feedback, unequalAt, unequalReason, unequalReasonsBy, unequalReasons, temporalReasons, reasons, scope, pattern, labels, risingIds}
+use Rattle.rules.specs.Graph.{Edge, startsAt, endsAt, reach, settled, stronglyConnected, inCount, outCount, Settled}
+use Rattle.rules.specs.Paths.{pathsTo, delaySum, extremeSum, PathTo, only, then}
+use Rattle.rules.specs.Scene.{Component, delayAt, risingIds}
+use Rattle.rules.specs.Reasons.{feedback, unequalAt, unequalReason, unequalReasonsBy, unequalReasons, temporalReasons, reasons, scope, pattern}
+use Rattle.rules.specs.Labels.{label, labels}
 use Rattle.rules.proofs.Lists.{same-test}
 use Rattle.rules.proofs.Permutations.{perm-mem, perm-count}
 use Rattle.rules.proofs.Reach.{Within, wider, reach-same}
 use Rattle.rules.proofs.Paths.{settled→, →settled, path→listed, listed→path}
-use Rattle.rules.proofs.Sums.{Choice, Under, best-same, smaller, larger}
+use Rattle.rules.proofs.Sums.{Choice, Under, extreme-same, smaller, larger}
 
 module _ (es fs : List Edge) (h : Within es fs) (k : Within fs es) where
   settled-wider : (v : ℕ) → Settled fs v → Settled es v
@@ -41,9 +42,9 @@ module _ {es fs : List Edge} (p : List·Permᴰ es fs) where
   pub settled-order : settled es ≡ settled fs
   settled-order = fun-ext (λ v. same-test _ _ (λ t. →settled fs v (settled-wider fs es back there v (settled→ es v t))) (λ t. →settled es v (settled-wider es fs there back v (settled→ fs v t))))
 
-  pub best-order : {f : ℕ → ℕ → ℕ} (C : Choice f) → bestSum f es ≡ bestSum f fs
-  unfolding bestSum
-  best-order C = fun-ext (λ d. fun-ext (λ v. best-same C _ _ (sums-under es fs there back C d v) (sums-under fs es back there C d v)))
+  pub extreme-order : {f : ℕ → ℕ → ℕ} (C : Choice f) → extremeSum f es ≡ extremeSum f fs
+  unfolding extremeSum
+  extreme-order C = fun-ext (λ d. fun-ext (λ v. extreme-same C _ _ (sums-under es fs there back C d v) (sums-under fs es back there C d v)))
 
   pub in-order : inCount es ≡ inCount fs
   unfolding inCount
@@ -53,21 +54,21 @@ module _ {es fs : List Edge} (p : List·Permᴰ es fs) where
   unfolding outCount
   out-order = fun-ext (λ v. perm-count (startsAt v) p)
 
-  pub component-order : sameComponent es ≡ sameComponent fs
-  unfolding sameComponent
+  pub component-order : stronglyConnected es ≡ stronglyConnected fs
+  unfolding stronglyConnected
   component-order = fun-ext (λ u. fun-ext (λ v. cc reach-order))
 
   pub label-order : label es ≡ label fs
   unfolding label
-  label-order = fun-ext (λ low. fun-ext (λ high. fun-ext (λ v. cc (settled-order, best-order smaller, best-order larger))))
+  label-order = fun-ext (λ low. fun-ext (λ high. fun-ext (λ v. cc (settled-order, extreme-order smaller, extreme-order larger))))
 
   unequalReason-order : unequalReason es ≡ unequalReason fs
   unfolding unequalReason
-  unequalReason-order = fun-ext (λ low. fun-ext (λ high. fun-ext (λ v. cc (best-order smaller, best-order larger))))
+  unequalReason-order = fun-ext (λ low. fun-ext (λ high. fun-ext (λ v. cc (extreme-order smaller, extreme-order larger))))
 
   unequalAt-order : unequalAt es ≡ unequalAt fs
   unfolding unequalAt
-  unequalAt-order = fun-ext (λ low. fun-ext (λ high. fun-ext (λ v. cc (best-order smaller, best-order larger, in-order))))
+  unequalAt-order = fun-ext (λ low. fun-ext (λ high. fun-ext (λ v. cc (extreme-order smaller, extreme-order larger, in-order))))
 
   pub unequal-by-order : (low high : ℕ → ℕ) (vs : List ℕ) → unequalReasonsBy es low high vs ≡ unequalReasonsBy fs low high vs
   unfolding unequalReasonsBy

@@ -9,7 +9,7 @@ use lib.Dec.{leb, ltb, leb→le, ltb→lt, le→leb, lt→ltb}
 use lib.ListN.{length, getD, take, drop, length-append, length-map, List·getD-append}
 use lib.Seq.{take-at, drop-at}
 use Rattle.rules.specs.Lists.{written}
-use Rattle.rules.specs.Projection.{Projected, startsFrom, pathLength, pathIds, projectedPath}
+use Rattle.rules.specs.Projection.{ProjectedEdge, startsFrom, pathLength, pathIds, projectedPath}
 use Rattle.rules.proofs.Lists.{tests, chosen, not-chosen}
 use Rattle.rules.proofs.Written.{written-parts, written-at, written-length}
 
@@ -43,16 +43,16 @@ module _ (paths starts lengths : List ℕ) (k : ℕ) where
 
 -- All paths
 
-abbrev pathOf : Projected → List ℕ
+abbrev pathOf : ProjectedEdge → List ℕ
 pathOf p = p .path
 
-starts-length : (at : ℕ) (ps : List Projected) → length (startsFrom at ps) ≡ length ps
+starts-length : (at : ℕ) (ps : List ProjectedEdge) → length (startsFrom at ps) ≡ length ps
 unfolding startsFrom
 starts-length at [] = refl
 starts-length at (p ∷ ps) = ap suc (starts-length (at + length (p .path)) ps)
 
 -- what stands in list 7 before and after the path of one edge, and where that path starts
-path-place : (at k : ℕ) (ps : List Projected) → k < length ps
+path-place : (at k : ℕ) (ps : List ProjectedEdge) → k < length ps
     → (before : List ℕ) × (after : List ℕ) × (pathIds ps ≡ before ++ (getD (map pathOf ps) k [] ++ after)) × (getD (startsFrom at ps) k 0 ≡ at + length before)
 unfolding startsFrom pathIds flatMap
 path-place at k [] h = absurd (omega arith)
@@ -65,12 +65,12 @@ path-place at (suc k) (p ∷ ps) h =
       omega (arith, r .3, length-append (p .path) (r .0)),
     )
 
-size-at : (k : ℕ) (ps : List Projected) → getD (map pathLength ps) k 0 ≡ length (getD (map pathOf ps) k [])
+size-at : (k : ℕ) (ps : List ProjectedEdge) → getD (map pathLength ps) k 0 ≡ length (getD (map pathOf ps) k [])
 size-at k [] = refl
 size-at zero (p ∷ ps) = refl
 size-at (suc k) (p ∷ ps) = size-at k ps
 
-module _ (oldp olds oldl : List ℕ) (ps : List Projected) where
+module _ (oldp olds oldl : List ℕ) (ps : List ProjectedEdge) where
   abbrev paths : List ℕ
   paths = written oldp (pathIds ps)
 

@@ -10,9 +10,9 @@ use lib.Dec.{T, leb, ltb, leb→le, ltb→lt}
 use lib.ListN.{length, getD, length-map}
 use Rattle.rules.specs.Lists.{any, keep}
 use Rattle.rules.specs.Delay.{cap, saturatingAdd}
-use Rattle.rules.specs.Kinds.{kindTable, kindRow, conductor, delayBy, wordDelay}
-use Rattle.rules.specs.Scene.{EndsListed, Component, idOf, hasId, byId, componentDelay, delayAt}
-use Rattle.rules.specs.Graph.{Edge, _⟶_, src, dst}
+use Rattle.rules.specs.Kinds.{kindTable, kindRow, conductor, delayBy, componentDelay}
+use Rattle.rules.specs.Scene.{EndsListed, Component, idOf, hasId, byId, delayOf, delayAt}
+use Rattle.rules.specs.Graph.{Edge, _⟶_, sourceOf, sinkOf}
 use Rattle.rules.specs.Paths.{delaySum, total, PathTo, only, then}
 use Rattle.rules.specs.declared.kinds.KindDelay.{KindDelay}
 use Rattle.rules.specs.declared.kinds.KindDelay.the-variants.{Fixed, Own}
@@ -65,16 +65,16 @@ by-row (Own n) word t = go (ltb word 256) (ltb→lt word 256)
 
 -- no component delays longer than 255
 pub delay-bound : (cs : List Component) (v : ℕ) → delayAt cs v ≤ 255
-unfolding delayAt byId componentDelay wordDelay
-delay-bound cs v = go (List·Memᴰ·cases-cons (getD-in (map componentDelay (keep (hasId v) cs)) 0 0))
+unfolding delayAt byId delayOf componentDelay
+delay-bound cs v = go (List·Memᴰ·cases-cons (getD-in (map delayOf (keep (hasId v) cs)) 0 0))
   where
     found : ℕ
-    found = getD (map componentDelay (keep (hasId v) cs)) 0 0
+    found = getD (map delayOf (keep (hasId v) cs)) 0 0
 
-    go : (found ≡ 0) ⊎ List·Memᴰ found (map componentDelay (keep (hasId v) cs)) → found ≤ 255
+    go : (found ≡ 0) ⊎ List·Memᴰ found (map delayOf (keep (hasId v) cs)) → found ≤ 255
     go (inl e) = omega arith
     go (inr m) =
-        let r = Memᴰ·of-map componentDelay (keep (hasId v) cs) m in
+        let r = Memᴰ·of-map delayOf (keep (hasId v) cs) m in
         subst (λ n. n ≤ 255) (r .2) (by-row (kindRow (r .0 .kind) .delay) (r .0 .delay) (every-row-fits (r .0 .kind)))
 
 module _ (cs : List Component) (es : List Edge) (ends : EndsListed cs es) where

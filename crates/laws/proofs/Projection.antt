@@ -7,10 +7,9 @@ use native.Mathlib.Omega.{arith}
 use lib.Dec.{T, T-not, not-T, eqb, eqb→eq, eqb-refl}
 use lib.ListN.{length, length-append, length-map}
 use Rattle.rules.specs.Lists.{keep, count, Distinct}
-use Rattle.rules.specs.Graph.{Edge, src, dst, startsAt, endsAt, inCount, outCount}
-use Rattle.rules.specs.Scene.{Component, idOf, DistinctIds, rowAt, delayAt}
-use Rattle.rules.specs.Reasons.{risingIds}
-use Rattle.rules.specs.Projection.{compressible, compressed, marks, retained, firstEdges, next, chain, chainFrom, lastOf, invertsAt, projectedBy, projectedAlong, projected, pathIds}
+use Rattle.rules.specs.Graph.{Edge, sourceOf, sinkOf, startsAt, endsAt, inCount, outCount}
+use Rattle.rules.specs.Scene.{Component, idOf, DistinctIds, rowAt, delayAt, risingIds}
+use Rattle.rules.specs.Projection.{compressibleKind, compressed, marks, retained, firstEdges, next, chain, chainFrom, lastOf, invertsAt, projectedBy, projectedAlong, projected, pathIds}
 use Rattle.rules.proofs.Lists.{and-both, keep-in, keep-out, flat-out}
 use Rattle.rules.proofs.Distinct.{pigeon}
 use Rattle.rules.proofs.Permutations.{perm-mem, perm-count, perm-length, perm-keep, keep-length, one-same, perm-map, perm-flat, flat-order}
@@ -24,8 +23,8 @@ use Rattle.laws.proofs.Chains.{between, compressed-in, compressed-out, 
 module _ {es fs : List Edge} (p : List·Permᴰ es fs) where
   next-order : (v : ℕ) → outCount es v ≡ 1 → next es v ≡ next fs v
   unfolding next outCount
-  next-order v h = one-same (map dst (keep (startsAt v) es)) (map dst (keep (startsAt v) fs)) v
-      (omega (arith, length-map (keep (startsAt v) es) dst, keep-length (startsAt v) es)) (perm-map dst (perm-keep (startsAt v) p))
+  next-order v h = one-same (map sinkOf (keep (startsAt v) es)) (map sinkOf (keep (startsAt v) fs)) v
+      (omega (arith, length-map (keep (startsAt v) es) sinkOf, keep-length (startsAt v) es)) (perm-map sinkOf (perm-keep (startsAt v) p))
 
   chain-order : (through : ℕ → Bool) → ((v : ℕ) → T (through v) → outCount es v ≡ 1) → (k v : ℕ) → chain k es through v ≡ chain k fs through v
   unfolding chain
@@ -52,7 +51,7 @@ module _ {es fs : List Edge} (p : List·Permᴰ es fs) where
 
     pub chain-from-order : chainFrom cs es ≡ chainFrom cs fs
     unfolding chainFrom
-    chain-from-order = fun-ext (λ e. cc (chain-order (compressed cs es) (compressed-out cs es) (length es) (dst e), compressed-order, perm-length p))
+    chain-from-order = fun-ext (λ e. cc (chain-order (compressed cs es) (compressed-out cs es) (length es) (sinkOf e), compressed-order, perm-length p))
 
     pub first-edges-order : List·Permᴰ (firstEdges cs es) (firstEdges cs fs)
     unfolding firstEdges
@@ -95,8 +94,8 @@ rows-count es (v ∷ vs) d p = omega (
     other : (e : Edge) → List·Memᴰ e rest → T (p e) → T (not (startsAt v e) && p e)
     other e m t =
         let r = flat-out (λ v. keep (startsAt v) es) vs m in
-        let w = eqb→eq (src e) (r .0) (keep-out (startsAt (r .0)) es (r .2) .1) in
-        and-both (not (startsAt v e)) (p e) (not-T (startsAt v e) (λ s. d .0 (Memᴰ·cast (sym (eqb→eq (src e) v s) ∙ w) (r .1)))) t
+        let w = eqb→eq (sourceOf e) (r .0) (keep-out (startsAt (r .0)) es (r .2) .1) in
+        and-both (not (startsAt v e)) (p e) (not-T (startsAt v e) (λ s. d .0 (Memᴰ·cast (sym (eqb→eq (sourceOf e) v s) ∙ w) (r .1)))) t
 
 module _ (cs : List Component) (es : List Edge) where
   pub retained-out : (v : ℕ) → List·Memᴰ v (retained cs es) → T (compressed cs es v) → ⊥
@@ -104,15 +103,15 @@ module _ (cs : List Component) (es : List Edge) where
   retained-out v m = T-not (compressed cs es v) (keep-out (λ v. not (compressed cs es v)) (risingIds cs) m .1)
 
   -- a first edge is an edge out of a retained component
-  pub first-edges-out : (e : Edge) → List·Memᴰ e (firstEdges cs es) → List·Memᴰ e es × List·Memᴰ (src e) (retained cs es)
+  pub first-edges-out : (e : Edge) → List·Memᴰ e (firstEdges cs es) → List·Memᴰ e es × List·Memᴰ (sourceOf e) (retained cs es)
   unfolding firstEdges
   first-edges-out e m =
       let r = flat-out (λ v. keep (startsAt v) es) (retained cs es) m in
       let k = keep-out (startsAt (r .0)) es (r .2) in
-      (k .0, Memᴰ·cast (eqb→eq (src e) (r .0) (k .1)) (r .1))
+      (k .0, Memᴰ·cast (eqb→eq (sourceOf e) (r .0) (k .1)) (r .1))
 
-  pub first-kept : (e : Edge) → List·Memᴰ e (firstEdges cs es) → T (compressed cs es (src e)) → ⊥
-  first-kept e m = retained-out (src e) (first-edges-out e m .1)
+  pub first-kept : (e : Edge) → List·Memᴰ e (firstEdges cs es) → T (compressed cs es (sourceOf e)) → ⊥
+  first-kept e m = retained-out (sourceOf e) (first-edges-out e m .1)
 
   path-ids-parts : (fs : List Edge) → length (pathIds (map (projectedAlong cs es) fs)) ≡ 2 * length fs + length (flatMap (between cs es) fs)
   unfolding pathIds flatMap projectedAlong projectedBy
@@ -148,15 +147,15 @@ module _ (cs : List Component) (es : List Edge) where
         (λ e f y m n. chain-apart cs es e f (first-edges-out e m .0) (first-edges-out f n .0) (first-kept e m) (first-kept f n) y)
       where
         once : (e : Edge) (y : ℕ) → List·Memᴰ e (firstEdges cs es) → List·Memᴰ y (between cs es e) → Once e (firstEdges cs es)
-        once e y m n = (endsAt (dst e), eqb-refl (dst e), omega (arith, first-edges-count (endsAt (dst e)), single))
+        once e y m n = (endsAt (sinkOf e), eqb-refl (sinkOf e), omega (arith, first-edges-count (endsAt (sinkOf e)), single))
           where
-            single : count (endsAt (dst e)) es ≡ 1
-            single = compressed-in cs es (dst e) (chain-enters cs es e y n)
+            single : count (endsAt (sinkOf e)) es ≡ 1
+            single = compressed-in cs es (sinkOf e) (chain-enters cs es e y n)
 
   -- every edge ends at a component
-  module _ (known : (e : Edge) → List·Memᴰ e es → List·Memᴰ (dst e) (map idOf cs)) where
+  module _ (known : (e : Edge) → List·Memᴰ e es → List·Memᴰ (sinkOf e) (map idOf cs)) where
     pub chain-ids : (e : Edge) → List·Memᴰ e es → (y : ℕ) → List·Memᴰ y (between cs es e ++ (lastOf (chainFrom cs es e) ∷ [])) → List·Memᴰ y (map idOf cs)
-    chain-ids e m y n = let r = Memᴰ·of-map dst es (chain-into cs es e m y n) in Memᴰ·cast (sym (r .2)) (known (r .0) (r .1))
+    chain-ids e m y n = let r = Memᴰ·of-map sinkOf es (chain-into cs es e m y n) in Memᴰ·cast (sym (r .2)) (known (r .0) (r .1))
 
     -- the paths of all projected edges have at most two ids for each edge and one for each component
     pub path-ids-count : DistinctIds cs → length (pathIds (projected cs es)) ≤ 2 * length es + length cs

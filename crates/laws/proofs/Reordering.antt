@@ -8,13 +8,14 @@ use lib.ListN.{length}
 use Rattle.rules.specs.Lists.{count}
 use Rattle.rules.specs.Scene.{Component, Connection, Scene, ComponentLists, ConnectionLists, connectionsOf, sceneOf, edges, isEdge, sameConnection, delayAt}
 use Rattle.rules.specs.Graph.{Edge}
-use Rattle.rules.specs.Reasons.{feedback, reasons, labels}
-use Rattle.rules.specs.Projection.{Projected, marks, compressed, projected}
+use Rattle.rules.specs.Reasons.{feedback, reasons}
+use Rattle.rules.specs.Projection.{ProjectedEdge, marks, compressed, projected}
 use Rattle.rules.specs.Refusals.{SceneLimits, Output, checkScene}
 use Rattle.rules.specs.Describe.{TimedEdge, timedEdge, timedEdges, deviceComponents, devices, Evidence, evidence, connectionEvidence, deviceEvidence, description}
 use Rattle.rules.specs.Assess.{assessment, sceneAnswer}
 use Rattle.rules.specs.declared.answers.Checked.{Checked}
 use Rattle.rules.specs.declared.answers.Checked.the-variants.{Accepted, Refused}
+use Rattle.rules.specs.Labels.{labels}
 use Rattle.rules.proofs.Lists.{tests, and-left, and-right}
 use Rattle.rules.proofs.Permutations.{perm-count, perm-length, perm-map, perm-keep}
 use Rattle.rules.proofs.EquallyOften.{often→perm}
@@ -36,7 +37,7 @@ pub record SameAnswers (s t : Scene) : Type 0 where
   pub same-feedback : feedback (s .components) (edges s) ≡ feedback (t .components) (edges t)
   pub same-marks : marks (s .components) (edges s) ≡ marks (t .components) (edges t)
   pub same-assessment : assessment (s .components) (edges s) ≡ assessment (t .components) (edges t)
-  pub same-projected : (old new : EdgeLists) (test : Projected → Bool)
+  pub same-projected : (old new : EdgeLists) (test : ProjectedEdge → Bool)
       → count test (storedEdges old (projected (s .components) (edges s))) ≡ count test (storedEdges new (projected (t .components) (edges t)))
 
 -- lists 0, 1 and 2: as many entries, each equally often
@@ -69,7 +70,7 @@ module _ (cs : List Component) {es fs : List Edge} (p : List·Permᴰ es fs) whe
   assessment-order =
       rw (scope-order p cs, pattern-order p cs, reasons-order p cs, feedback-order p cs, compressed-order p cs, projected-length-order p cs, path-ids-length-order p cs)
 
-  stored-order : (old new : EdgeLists) (test : Projected → Bool) → count test (storedEdges old (projected cs es)) ≡ count test (storedEdges new (projected cs fs))
+  stored-order : (old new : EdgeLists) (test : ProjectedEdge → Bool) → count test (storedEdges old (projected cs es)) ≡ count test (storedEdges new (projected cs fs))
   stored-order old new test = rw (stored-back old (projected cs es), stored-back new (projected cs fs)) (perm-count test (projected-order p cs))
 
 module _ (cs : List Component) {ns ms : List Connection} (p : List·Permᴰ ns ms) where

@@ -1,5 +1,5 @@
 -- Every list of an accepted scene fits the length that it needs, and projected delays are plain sums. Assumes nothing.
-use mathlib.Core.Bool.{Bool, true, false, not, cond, _&&_}
+use mathlib.Core.Bool.{Bool, true, false, cond, _&&_, _||_}
 use mathlib.Core.List.{List, [], _∷_, _++_, map, flatMap, List·Memᴰ, List·Memᴰ·cases-cons, Memᴰ·cast, Memᴰ·append-left}
 use mathlib.Core.Path.{_≡_, refl, sym, subst, _∙_}
 use mathlib.Core.Logic.{⊎-elim}
@@ -9,14 +9,15 @@ use lib.Dec.{eqb}
 use lib.ListN.{length, length-map, length-append}
 use Rattle.rules.specs.Lists.{keep, count}
 use Rattle.rules.specs.Delay.{cap}
-use Rattle.rules.specs.Kinds.{isDevice}
-use Rattle.rules.specs.Scene.{EndsListed, Component, Connection, DistinctIds, idOf, isEdge, ends, edgesOf, row, delayAt}
-use Rattle.rules.specs.Graph.{Edge, src, dst, sameComponent}
-use Rattle.rules.specs.Paths.{delaySum, total, label}
-use Rattle.rules.specs.Reasons.{Reason, statefulOrMechanical, statefulOrMechanicalDevice, lockedRepeater, inFeedback, feedback, feedbackReason, ownReason, unequalAt, unequalReason, risingIds, unequalReasonsBy, unequalReasons, temporalReasons, reasons, labels}
+use Rattle.rules.specs.Kinds.{isDevice, repeaterCode, comparatorCode, pistonCode}
+use Rattle.rules.specs.Scene.{EndsListed, Component, Connection, DistinctIds, idOf, isEdge, edgeOf, edgesOf, rowOf, delayAt, risingIds}
+use Rattle.rules.specs.Graph.{Edge, sourceOf, sinkOf, stronglyConnected}
+use Rattle.rules.specs.Paths.{delaySum, total}
+use Rattle.rules.specs.Reasons.{Reason, statefulOrMechanicalDevice, lockedRepeater, inFeedback, feedback, feedbackReason, ownReason, unequalAt, unequalReason, unequalReasonsBy, unequalReasons, temporalReasons, reasons}
 use Rattle.rules.specs.Projection.{compressed, marks, firstEdges, chainFrom, beforeLast, projected, pathIds}
-use Rattle.rules.specs.Describe.{timedEdge, timedEdges, timedDevice, deviceComponents, devices, connectionEvidence, deviceEvidence, evidence}
+use Rattle.rules.specs.Describe.{timedEdge, timedEdges, temporalDevice, deviceComponents, devices, connectionEvidence, deviceEvidence, evidence}
 use Rattle.rules.specs.declared.kinds.KindRow.{KindRow}
+use Rattle.rules.specs.Labels.{label, labels}
 use Rattle.rules.proofs.Distinct.{pigeon}
 use Rattle.rules.proofs.Permutations.{keep-length, perm-length}
 use Rattle.rules.proofs.Counts.{count-under, count-every}
@@ -32,7 +33,7 @@ module _ (cs : List Component) (ns : List Connection) where
   -- the edges are no more than the connections
   pub edges-fit : length (edgesOf ns) ≤ length ns
   unfolding edgesOf
-  edges-fit = omega (arith, length-map (keep isEdge ns) ends, keep-fewer isEdge ns)
+  edges-fit = omega (arith, length-map (keep isEdge ns) edgeOf, keep-fewer isEdge ns)
 
   -- list 0 needs M, list 1 N, list 2 M + N
   pub timed-edges-fit : length (timedEdges cs ns) ≤ length ns
@@ -41,11 +42,11 @@ module _ (cs : List Component) (ns : List Connection) where
 
   pub device-components-fit : length (deviceComponents cs) ≤ length cs
   unfolding deviceComponents
-  device-components-fit = keep-fewer (λ c. isDevice (row c)) cs
+  device-components-fit = keep-fewer (λ c. isDevice (rowOf c)) cs
 
   pub devices-fit : length (devices cs) ≤ length cs
   unfolding devices
-  devices-fit = omega (arith, length-map (deviceComponents cs) timedDevice, device-components-fit)
+  devices-fit = omega (arith, length-map (deviceComponents cs) temporalDevice, device-components-fit)
 
   pub evidence-fit : length (evidence cs ns) ≤ length ns + length cs
   unfolding evidence
@@ -60,7 +61,7 @@ module _ (cs : List Component) (ns : List Connection) where
 module _ (cs : List Component) (es : List Edge) where
   own-one : (c : Component) → length (ownReason c) ≤ 1
   unfolding ownReason
-  own-one c = go (statefulOrMechanical (row c .node)) (eqb (c .kind) 10 && eqb (c .locked) 1)
+  own-one c = go (eqb (c .kind) comparatorCode || eqb (c .kind) pistonCode) (eqb (c .kind) repeaterCode && eqb (c .locked) 1)
     where
       go : (a b : Bool) → length (cond a (statefulOrMechanicalDevice (c .id) (c .kind) ∷ []) (cond b (lockedRepeater (c .id) ∷ []) [])) ≤ 1
       go true b = omega arith
@@ -97,7 +98,7 @@ module _ (cs : List Component) (es : List Edge) where
 
   pub feedback-fit : length (feedback cs es) ≤ length cs
   unfolding feedback
-  feedback-fit = omega (arith, length-map (keep (inFeedback cs (sameComponent es)) cs) idOf, keep-fewer (inFeedback cs (sameComponent es)) cs)
+  feedback-fit = omega (arith, length-map (keep (inFeedback cs (stronglyConnected es)) cs) idOf, keep-fewer (inFeedback cs (stronglyConnected es)) cs)
 
   pub marks-fit : length (marks cs es) ≡ length cs
   unfolding marks
@@ -108,7 +109,7 @@ module _ (cs : List Component) (es : List Edge) where
   labels-fit = length-map (map idOf cs) (label es (delayAt cs) (delayAt cs)) ∙ length-map cs idOf
 
   module _ (listed : EndsListed cs es) (distinct : DistinctIds cs) where
-    known : (e : Edge) → List·Memᴰ e es → List·Memᴰ (dst e) (map idOf cs)
+    known : (e : Edge) → List·Memᴰ e es → List·Memᴰ (sinkOf e) (map idOf cs)
     known e m = listed e m .1
 
     -- list 6 needs M and list 7 2M + N, for M connections with these edges

@@ -5,7 +5,7 @@ use Prim.Native.Nat.{ℕ, _<_}
 use native.Mathlib.Omega.{arith}
 use lib.ListN.{length, getD, length-map}
 use Rattle.rules.specs.Lists.{indices, written}
-use Rattle.rules.specs.Projection.{Projected, startsFrom, pathLength, pathIds, projectedPath}
+use Rattle.rules.specs.Projection.{ProjectedEdge, pathStarts, pathLength, pathIds, projectedPath}
 use Rattle.rules.proofs.Indices.{map-at, made-same}
 use Rattle.rules.proofs.Written.{written-at}
 use Rattle.laws.proofs.PathParts.{path-back}
@@ -22,7 +22,7 @@ pub record EdgeLists : Type 0 where
   pub paths : List ℕ
 
 -- the entry of one index, with the part of list 7 that it names, once ps was written
-unfoldable pub storedEdge : EdgeLists → List Projected → ℕ → Projected
+unfoldable pub storedEdge : EdgeLists → List ProjectedEdge → ℕ → ProjectedEdge
 storedEdge old ps k =
     record {
       source = getD (written (old .sources) (map (λ p. p .source) ps)) k 0;
@@ -30,18 +30,18 @@ storedEdge old ps k =
       inverted = getD (written (old .inverted) (map (λ p. p .inverted) ps)) k 0;
       minimum = getD (written (old .minimums) (map (λ p. p .minimum) ps)) k 0;
       maximum = getD (written (old .maximums) (map (λ p. p .maximum) ps)) k 0;
-      path = projectedPath (written (old .paths) (pathIds ps)) (written (old .starts) (startsFrom 0 ps)) (written (old .lengths) (map pathLength ps)) k;
+      path = projectedPath (written (old .paths) (pathIds ps)) (written (old .starts) (pathStarts ps)) (written (old .lengths) (map pathLength ps)) k;
     }
 
 -- the entries in use
-unfoldable pub storedEdges : EdgeLists → List Projected → List Projected
+unfoldable pub storedEdges : EdgeLists → List ProjectedEdge → List ProjectedEdge
 storedEdges old ps = map (storedEdge old ps) (indices (length ps))
 
-module _ (old : EdgeLists) (ps : List Projected) where
-  none : Projected
+module _ (old : EdgeLists) (ps : List ProjectedEdge) where
+  none : ProjectedEdge
   none = record { source = 0; sink = 0; inverted = 0; minimum = 0; maximum = 0; path = [] }
 
-  field-back : (field : Projected → ℕ) (l : List ℕ) (k : ℕ) → k < length ps → getD (written l (map field ps)) k 0 ≡ field (getD ps k none)
+  field-back : (field : ProjectedEdge → ℕ) (l : List ℕ) (k : ℕ) → k < length ps → getD (written l (map field ps)) k 0 ≡ field (getD ps k none)
   field-back field l k h = written-at l (map field ps) k 0 (omega (arith, length-map ps field)) ∙ map-at field ps k none 0 h
 
   -- what was written is what is read

@@ -8,7 +8,7 @@ use lib.ListN.{length}
 use Rattle.rules.specs.Delay.{cap}
 use Rattle.rules.specs.Scene.{Component, ComponentLists, ConnectionLists, componentsOf, connectionsOf, edgesOf, delayAt}
 use Rattle.rules.specs.Graph.{Edge}
-use Rattle.rules.specs.Paths.{delaySum, total, PathTo, Extreme}
+use Rattle.rules.specs.Paths.{delaySum, total, PathTo, IsExtreme}
 use Rattle.rules.specs.Reasons.{Reason, unequalReconvergentDelay, reasons, UnequalDelay}
 use Rattle.rules.specs.Refusals.{SceneLimits, Output, sceneLimits, checkScene}
 use Rattle.rules.specs.declared.answers.Checked.the-variants.{Accepted}
@@ -17,13 +17,13 @@ use Rattle.rules.proofs.Acceptance.{AcceptedScene, accepted→, components-leng
 use Rattle.laws.proofs.PlainSums.{path-plain}
 
 -- sums that agree on every path have the same extremes
-extreme-same : {Good : ℕ → ℕ → Type 0} {es : List Edge} {s t : List ℕ → ℕ} {v n : ℕ} → ((p : List ℕ) → PathTo es v p → s p ≡ t p) → Extreme Good es s v n → Extreme Good es t v n
-extreme-same {Good} {n = n} h x =
+extreme-agrees : {Bounds : ℕ → ℕ → Type 0} {es : List Edge} {s t : List ℕ → ℕ} {v n : ℕ} → ((p : List ℕ) → PathTo es v p → s p ≡ t p) → IsExtreme Bounds es s v n → IsExtreme Bounds es t v n
+extreme-agrees {Bounds} {n = n} h x =
     record {
       path = x .path;
       is-path = x .is-path;
       has-sum = sym (h (x .path) (x .is-path)) ∙ x .has-sum;
-      bounds = λ p P. subst (Good n) (h p P) (x .bounds p P);
+      bounds = λ p P. subst (Bounds n) (h p P) (x .bounds p P);
     }
 
 unequal-same : {cs : List Component} {es : List Edge} {s t : List ℕ → ℕ} {v low high : ℕ} → ((p : List ℕ) → PathTo es v p → s p ≡ t p) → UnequalDelay cs es s s v low high → UnequalDelay cs es t t v low high
@@ -31,8 +31,8 @@ unequal-same h u =
     record {
       component = u .component;
       incoming = u .incoming;
-      smallest = extreme-same h (u .smallest);
-      largest = extreme-same h (u .largest);
+      smallest = extreme-agrees h (u .smallest);
+      largest = extreme-agrees h (u .largest);
       differ = u .differ;
     }
 

@@ -8,15 +8,15 @@ use native.Mathlib.Omega.{arith}
 use lib.Dec.{T, T-not, not-T, eqb, ltb, eqb→eq, eqb-refl, nltb→le}
 use lib.ListN.{length, getD, take}
 use Rattle.rules.specs.Lists.{any, keep, count, indices, Distinct}
-use Rattle.rules.specs.Graph.{Edge, src, dst}
-use Rattle.rules.specs.Scene.{EndsListed, Component, Connection, ComponentLists, ConnectionLists, componentAt, connectionAt, componentsOf, connectionsOf, isEdge, ends, edgesOf, idOf, hasId, DistinctIds}
+use Rattle.rules.specs.Graph.{Edge, sourceOf, sinkOf}
+use Rattle.rules.specs.Scene.{EndsListed, Component, Connection, ComponentLists, ConnectionLists, componentAt, connectionAt, componentsOf, connectionsOf, isEdge, edgeOf, edgesOf, idOf, hasId, DistinctIds}
 use Rattle.rules.specs.Refusals.{Test, SceneLimits, Output, lengthsDiffer, componentLengths, connectionLengths, outputTest, outOfRange, usedEarlier, componentTests, badTransfer, endMissing, connectionTests, sizeTests, sceneTests, checkScene}
 use Rattle.rules.specs.declared.answers.Checked.the-variants.{Accepted}
 use Rattle.rules.proofs.Counts.{count-none}
 use Rattle.rules.proofs.Lists.{or-cases, and-left, and-right, eq-test, tests, any-in, any-out, keep-out}
 use Rattle.rules.proofs.Permutations.{perm-mem, perm-length, perm-keep, perm-map}
 use Rattle.rules.proofs.Indices.{indices-below, below-indices, made-length, column, distinct-if, distinct-before}
-use Rattle.rules.proofs.FirstRefusal.{NoneHold, within, none-nil, none-cons, none-append, none-flat, none-parts, none-each, none-holds, accepted-if}
+use Rattle.rules.proofs.FirstRefusal.{NoneHold, within, none-nil, none-cons, none-append, none-map, none-flat, none-parts, none-each, none-holds, accepted-if}
 
 -- the ids of the components are the lent ids, and there are as many components
 pub component-ids : (l : ComponentLists) → map idOf (componentsOf l) ≡ l .ids
@@ -200,7 +200,7 @@ module _ (limits : SceneLimits) (l : ComponentLists) (m : ConnectionLists) (outp
     connections-aligned = aligned-connections m (parts .0 _ (List·Memᴰ·tail (List·Memᴰ·head refl)));
     components-few = at-most _ _ (parts .0 _ (List·Memᴰ·tail (List·Memᴰ·tail (List·Memᴰ·head refl))));
     connections-few = at-most _ _ (parts .0 _ (List·Memᴰ·tail (List·Memᴰ·tail (List·Memᴰ·tail (List·Memᴰ·head refl)))));
-    outputs-long = λ o k. output-long o (none-each (λ o. outputTest o ∷ []) outputs (λ t n. parts .0 t (List·Memᴰ·tail (List·Memᴰ·tail (List·Memᴰ·tail (List·Memᴰ·tail n))))) o k _ (List·Memᴰ·head refl));
+    outputs-long = λ o k. output-long o (parts .0 _ (List·Memᴰ·tail (List·Memᴰ·tail (List·Memᴰ·tail (List·Memᴰ·tail (Memᴰ·map outputTest k))))));
     components-fit = λ c k. let r = Memᴰ·of-map (componentAt l) _ k in subst ComponentFits (r .2) (component-fits _ (at-component (r .0) (r .1) _ (List·Memᴰ·head refl)));
     ids-distinct = distinct-unused (l .ids) (λ i h. at-component i (below-indices _ h) _ (List·Memᴰ·tail (List·Memᴰ·head refl)));
     connections-fit = λ n k. let r = Memᴰ·of-map (connectionAt m) _ k in subst (ConnectionFits (l .ids)) (r .2) (connection-fits (l .ids) _ (at-connection (r .0) (r .1) _ (List·Memᴰ·head refl)) (at-connection (r .0) (r .1) _ (List·Memᴰ·tail (List·Memᴰ·head refl))));
@@ -228,7 +228,7 @@ module _ (limits : SceneLimits) (l : ComponentLists) (m : ConnectionLists) (outp
       none-sizes =
           none-cons (aligned-components-test l (a .components-aligned)) (none-cons (aligned-connections-test m (a .connections-aligned))
           (none-cons (within _ _ (a .components-few)) (none-cons (within _ _ (a .connections-few))
-          (none-flat (λ o. outputTest o ∷ []) outputs (λ o k. none-cons (output-long-test o (a .outputs-long o k)) none-nil)))))
+          (none-map outputTest outputs (λ o k. output-long-test o (a .outputs-long o k))))))
 
       at-component : (i : ℕ) → List·Memᴰ i (indices (length (l .ids))) → NoneHold (componentTests l i)
       at-component i k =
@@ -261,10 +261,10 @@ pub edge-ends : {limits : SceneLimits} {l : ComponentLists} {m : ConnectionLists
     → EndsListed (componentsOf l) (edgesOf (connectionsOf m))
 unfolding edgesOf
 edge-ends {l} {m} a e k =
-    let r = Memᴰ·of-map ends (keep isEdge (connectionsOf m)) k in
+    let r = Memᴰ·of-map edgeOf (keep isEdge (connectionsOf m)) k in
     let q = keep-out isEdge (connectionsOf m) (r .1) in
     let f = a .connections-fit (r .0) (q .0) in
-    subst (λ e. List·Memᴰ (src e) (map idOf (componentsOf l)) × List·Memᴰ (dst e) (map idOf (componentsOf l))) (r .2) (rw component-ids (f .source-known (q .1)), rw component-ids (f .sink-known (q .1)))
+    subst (λ e. List·Memᴰ (sourceOf e) (map idOf (componentsOf l)) × List·Memᴰ (sinkOf e) (map idOf (componentsOf l))) (r .2) (rw component-ids (f .source-known (q .1)), rw component-ids (f .sink-known (q .1)))
 
 -- the order of the connections does not matter to acceptance
 pub acceptance-order : (limits : SceneLimits) (l : ComponentLists) (m m′ : ConnectionLists) (outputs : List Output) → List·Permᴰ (connectionsOf m) (connectionsOf m′) → ConnectionsAligned m′
@@ -285,4 +285,4 @@ acceptance-order limits l m m′ outputs p g e =
 -- connections in another order have the same edges in another order
 pub edges-order : {ns ns′ : List Connection} → List·Permᴰ ns ns′ → List·Permᴰ (edgesOf ns) (edgesOf ns′)
 unfolding edgesOf
-edges-order p = perm-map ends (perm-keep isEdge p)
+edges-order p = perm-map edgeOf (perm-keep isEdge p)

@@ -7,20 +7,20 @@ use lib.IntN.{ℤ, pos}
 use lib.ListN.{length}
 use Rattle.rules.specs.Lists.{any, keep, count, from, indices, insert, rising, once, sum}
 use Rattle.rules.specs.Delay.{saturatingAdd}
-use Rattle.rules.specs.Kinds.{kindRow, delayBy, wordDelay, isDevice}
-use Rattle.rules.specs.Graph.{inCount, outCount, reach, settled, sameComponent}
-use Rattle.rules.specs.Scene.{Component, Connection, Scene, edgesOf, edges, row, componentDelay, byId, rowAt, delayAt}
-use Rattle.rules.specs.Paths.{noIncoming, settledSources, pathsWithin, pathsTo, delaySum, best, bestSum, Label, unsettled, between, label}
-use Rattle.rules.specs.Reasons.{inFeedback, feedback, Reason, unequalReconvergentDelay, feedbackLoop, statefulOrMechanicalDevice, lockedRepeater, feedbackReason, ownReason, unequalAt, unequalReason, risingIds, unequalReasonsBy, unequalReasons, temporalReasons, reasons, scope, pattern, labels}
-use Rattle.rules.specs.Projection.{compressed, marks, retained, firstEdges, next, chain, chainFrom, beforeLast, lastOf, flips, invertsAt, Projected, projectedBy, projectedAlong, projected}
+use Rattle.rules.specs.Kinds.{kindRow, delayBy, componentDelay, isDevice}
+use Rattle.rules.specs.Graph.{inCount, outCount, reach, settled, stronglyConnected}
+use Rattle.rules.specs.Scene.{Component, Connection, Scene, edgesOf, edges, rowOf, delayOf, byId, rowAt, delayAt, risingIds}
+use Rattle.rules.specs.Paths.{noIncoming, settledSources, pathsWithin, pathsTo, delaySum, extreme, extremeSum}
+use Rattle.rules.specs.Reasons.{inFeedback, feedback, Reason, unequalReconvergentDelay, feedbackLoop, statefulOrMechanicalDevice, lockedRepeater, feedbackReason, ownReason, unequalAt, unequalReason, unequalReasonsBy, unequalReasons, temporalReasons, reasons, scope, pattern}
+use Rattle.rules.specs.Projection.{compressed, marks, retained, firstEdges, next, chain, chainFrom, beforeLast, lastOf, flips, invertsAt, ProjectedEdge, projectedBy, projectedAlong, projected}
 use Rattle.rules.specs.Pulses.{Event, isPulse, pulseOf, pulsesIn, eventComponents, pulses}
-use Rattle.rules.specs.Verdicts.{Contract, intentOf, designIntent, classify, Finding, findingOf, findings, tally, tallies}
-use Rattle.rules.specs.Traces.{findingPolarity, findingWidth, findingVerdict, findingRationale}
+use Rattle.rules.specs.Verdicts.{Contract, intentOf, designIntent, classify, Finding, findingOf, findings, tally, tallies, findingPolarity, findingWidth, findingVerdict, findingRationale}
 use Rattle.rules.specs.declared.answers.TemporalScope.{TemporalScope}
 use Rattle.rules.specs.declared.answers.TemporalScope.the-variants.{SteadyStateSafe, TimingSensitive, TemporalRequired}
 use Rattle.rules.specs.declared.answers.BehaviorPattern.{BehaviorPattern}
 use Rattle.rules.specs.declared.answers.BehaviorPattern.the-variants.{DelayedPath, ClockCandidate, LatchCandidate, Nothing}
 use Rattle.rules.specs.declared.transient.TraceTimeUnit.the-variants.{RedstoneTick}
+use Rattle.rules.specs.Labels.{Label, unsettled, between, label, labels}
 
 -- What is asked of the rules, and what they answer
 
@@ -34,7 +34,7 @@ record Report : Type 0 where
   feedback : List ℕ
   pattern : BehaviorPattern
   marks : List ℕ
-  projected : List Projected
+  projected : List ProjectedEdge
   labels : List Label
 
 -- of a pulse: polarity, width, verdict, rationale
@@ -96,7 +96,7 @@ infix 90 _to_
 abbrev _to_ : ℕ → ℕ → Connection
 a to b = record { source = a; sink = b; transfer = 1 }
 
-abbrev straight : ℕ → ℕ → ℕ → List ℕ → Projected
+abbrev straight : ℕ → ℕ → ℕ → List ℕ → ProjectedEdge
 straight a b d p = record { source = a; sink = b; inverted = 0; minimum = d; maximum = d; path = p }
 
 abbrev event : ℕ → ℕ → ℕ → Event
@@ -236,8 +236,8 @@ rows =
     ∷ []
 
 builds-hold : map (λ r. answer (r .asked)) rows ≡ map (λ r. r .expected) rows
-unfolding answer report judgedOf any keep count from indices insert rising once saturatingAdd kindRow delayBy wordDelay isDevice inCount outCount reach settled sameComponent
-    edgesOf row componentDelay byId rowAt delayAt noIncoming settledSources pathsWithin pathsTo delaySum best bestSum label
+unfolding answer report judgedOf any keep count from indices insert rising once saturatingAdd kindRow delayBy componentDelay isDevice inCount outCount reach settled stronglyConnected
+    edgesOf rowOf delayOf byId rowAt delayAt noIncoming settledSources pathsWithin pathsTo delaySum extreme extremeSum label
     inFeedback feedback feedbackReason ownReason unequalAt unequalReason risingIds unequalReasonsBy unequalReasons temporalReasons reasons scope pattern labels
     compressed marks retained firstEdges next chain chainFrom beforeLast lastOf flips invertsAt projectedBy projectedAlong projected
     isPulse pulseOf pulsesIn eventComponents pulses intentOf designIntent classify findingOf findings flatMap

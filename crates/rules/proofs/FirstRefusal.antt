@@ -1,6 +1,6 @@
 -- The first test that holds decides, over any list of tests. Assumes nothing.
 use mathlib.Core.Bool.{Bool, true, false, cond}
-use mathlib.Core.List.{List, [], _∷_, _++_, flatMap, List·Memᴰ, List·Memᴰ·head, List·Memᴰ·tail, List·Memᴰ·not-nil, List·Memᴰ·cases-cons, List·Memᴰ·append-cases, Memᴰ·append-left, Memᴰ·append-right}
+use mathlib.Core.List.{List, [], _∷_, _++_, map, flatMap, List·Memᴰ, List·Memᴰ·head, List·Memᴰ·tail, List·Memᴰ·not-nil, List·Memᴰ·cases-cons, List·Memᴰ·append-cases, Memᴰ·append-left, Memᴰ·append-right, Memᴰ·of-map}
 use mathlib.Core.Path.{_≡_, refl, sym, ap, subst, _∙_}
 use mathlib.Core.Logic.{_⊎_, inl, inr, ⊎-elim}
 use Prim.Native.Nat.{ℕ, _≤_}
@@ -26,6 +26,9 @@ none-append a g h s m k = ⊎-elim (λ n. g s n k) (λ n. h s n k) (List·Memᴰ
 
 pub none-flat : {A : Type 0} (f : A → List Test) (l : List A) → ((x : A) → List·Memᴰ x l → NoneHold (f x)) → NoneHold (flatMap f l)
 none-flat f l h s m k = let r = flat-out f l m in h (r .0) (r .1) s (r .2) k
+
+pub none-map : {A : Type 0} (f : A → Test) (l : List A) → ((x : A) → List·Memᴰ x l → T (f x .holds) → ⊥) → NoneHold (map f l)
+none-map f l h t m k = let r = Memᴰ·of-map f l m in h (r .0) (r .1) (subst (λ s. T (s .holds)) (sym (r .2)) k)
 
 pub none-parts : (a b : List Test) → NoneHold (a ++ b) → NoneHold a × NoneHold b
 none-parts a b h = (λ t m. h t (Memᴰ·append-left b m), λ t m. h t (Memᴰ·append-right a m))

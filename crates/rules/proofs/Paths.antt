@@ -9,7 +9,7 @@ use native.Mathlib.Nat.{not-suc-le-zero}
 use lib.Dec.{T, T-not, not-T, eqb, eqb→eq, eqb-refl}
 use lib.ListN.{length, length-map}
 use Rattle.rules.specs.Lists.{any, keep, Distinct}
-use Rattle.rules.specs.Graph.{Edge, _⟶_, src, dst, endsAt, cycleReaching, reach, settled, Walk, stop, step, OnCycle, Settled}
+use Rattle.rules.specs.Graph.{Edge, _⟶_, sourceOf, sinkOf, endsAt, cycleReaching, reach, settled, Walk, stop, step, OnCycle, Settled}
 use Rattle.rules.specs.Paths.{entersSettled, noIncoming, settledSources, pathsWithin, pathsTo, PathTo, only, then}
 use Rattle.rules.proofs.Lists.{or-left, or-right, or-cases, and-left, and-right, and-both, same-test, eq-test, tests, any-in, any-out, keep-in, keep-out, flat-in, flat-out}
 use Rattle.rules.proofs.Reach.{Within, join, wider, reach→walk, walk→reach}
@@ -44,13 +44,13 @@ module _ (es : List Edge) where
   -- the settled sources of the edges into v
   pub source-in : {u v : ℕ} → List·Memᴰ (u ⟶ v) es → Settled es u → List·Memᴰ u (settledSources es v)
   unfolding settledSources
-  source-in {u} {v} m s = Memᴰ·map src (keep-in (entersSettled es v) m (search (tests, eqb-refl v, →settled u s)))
+  source-in {u} {v} m s = Memᴰ·map sourceOf (keep-in (entersSettled es v) m (search (tests, eqb-refl v, →settled u s)))
 
   pub source-out : {u v : ℕ} → List·Memᴰ u (settledSources es v) → List·Memᴰ (u ⟶ v) es × Settled es u
   unfolding settledSources
-  source-out {u} {v} n = let r = Memᴰ·of-map src (keep (entersSettled es v) es) n in go (r .0) (keep-out (entersSettled es v) es (r .1)) (r .2)
+  source-out {u} {v} n = let r = Memᴰ·of-map sourceOf (keep (entersSettled es v) es) n in go (r .0) (keep-out (entersSettled es v) es (r .1)) (r .2)
     where
-      go : (e : Edge) → List·Memᴰ e es × T (entersSettled es v e) → src e ≡ u → List·Memᴰ (u ⟶ v) es × Settled es u
+      go : (e : Edge) → List·Memᴰ e es × T (entersSettled es v e) → sourceOf e ≡ u → List·Memᴰ (u ⟶ v) es × Settled es u
       go (a ⟶ b) k d = (
         Memᴰ·cast (ap₂ _⟶_ (sym d) (sym (eqb→eq b v (and-left (eqb b v) (settled es a) (k .1))))) (k .0),
         subst (Settled es) d (settled→ a (and-right (eqb b v) (settled es a) (k .1))),
@@ -111,7 +111,7 @@ module _ (es : List Edge) where
       rest (then {u} k s P) = (λ m. s u (before P u m) (stop refl), rest P)
 
   pub path-short : {v : ℕ} {p : List ℕ} → PathTo es v p → length p ≤ length es
-  path-short {p} P = rw length-map at (pigeon p (map src es) (path-distinct P .1) (λ x m. Memᴰ·map src (before P x m .1)))
+  path-short {p} P = rw length-map at (pigeon p (map sourceOf es) (path-distinct P .1) (λ x m. Memᴰ·map sourceOf (before P x m .1)))
 
   pub path→listed : {v : ℕ} {p : List ℕ} → PathTo es v p → List·Memᴰ p (pathsTo es v)
   unfolding pathsTo

@@ -8,14 +8,14 @@ use native.Mathlib.Omega.{arith}
 use lib.Dec.{T, eqb, eqb→eq}
 use lib.ListN.{length, length-map}
 use Rattle.rules.specs.Lists.{any, Distinct}
-use Rattle.rules.specs.Graph.{Edge, _⟶_, src, dst, endsAt, Walk, stop, step, OnCycle, Settled}
+use Rattle.rules.specs.Graph.{Edge, _⟶_, sourceOf, sinkOf, endsAt, Walk, stop, step, OnCycle, Settled}
 use Rattle.rules.specs.Delay.{saturatingAdd}
-use Rattle.rules.specs.Paths.{noIncoming, settledSources, pathsTo, delaySum, best, bestSum, PathTo, only, then, Extreme}
+use Rattle.rules.specs.Paths.{noIncoming, settledSources, pathsTo, delaySum, extreme, extremeSum, PathTo, only, then, IsExtreme}
 use Rattle.rules.proofs.Lists.{any-out}
 use Rattle.rules.proofs.Reach.{join}
 use Rattle.rules.proofs.Distinct.{pigeon}
 use Rattle.rules.proofs.Paths.{noIncoming→, settled-back, source-in, source-out, path→listed, listed→path}
-use Rattle.rules.proofs.Sums.{Choice, best-at, best-good, best-same, Under}
+use Rattle.rules.proofs.Sums.{Choice, extreme-at, extreme-good, extreme-same, Under}
 
 module _ (es : List Edge) where
   -- v leads to x
@@ -36,14 +36,14 @@ module _ (es : List Edge) where
   -- What holds of a component once it holds of all its sources holds of every settled one. Back from v the components q behind it
   -- are distinct, so there are no more of them than edges
   module _ {ℓ} (P : ℕ → Type ℓ) (from-sources : (v : ℕ) → ((u : ℕ) → List·Memᴰ (u ⟶ v) es → P u) → P v) where
-    back : (k v : ℕ) (q : List ℕ) → Settled es v → Distinct q → ((x : ℕ) → List·Memᴰ x q → Leads v x) → ((x : ℕ) → List·Memᴰ x q → List·Memᴰ x (map dst es))
+    back : (k v : ℕ) (q : List ℕ) → Settled es v → Distinct q → ((x : ℕ) → List·Memᴰ x q → Leads v x) → ((x : ℕ) → List·Memᴰ x q → List·Memᴰ x (map sinkOf es))
         → length es < k + length q → P v
     unfolding Leads
-    back zero v q s d f i h = absurd (omega (arith, pigeon q (map dst es) d i, length-map es dst))
+    back zero v q s d f i h = absurd (omega (arith, pigeon q (map sinkOf es) d i, length-map es sinkOf))
     back (suc k) v q s d f i h =
         from-sources v (λ u m. back k u (v ∷ q) (settled-back es m s) ((λ n. s v (f v n) (stop refl)), d)
         (λ x n. ⊎-elim (λ e. (v, m, stop (sym e))) (λ n′. let r = f x n′ in (v, m, step (r .1) (r .2))) (List·Memᴰ·cases-cons n))
-        (λ x n. ⊎-elim (λ e. Memᴰ·cast e (Memᴰ·map dst m)) (i x) (List·Memᴰ·cases-cons n))
+        (λ x n. ⊎-elim (λ e. Memᴰ·cast e (Memᴰ·map sinkOf m)) (i x) (List·Memᴰ·cases-cons n))
         (omega arith))
 
     pub settled-induction : (v : ℕ) → Settled es v → P v
@@ -76,49 +76,49 @@ module _ {f : ℕ → ℕ → ℕ} (C : Choice f) (es : List Edge) (d : ℕ → 
   sum-in P = Memᴰ·map (delaySum d) (path→listed es P)
 
   -- no path is better than the best sum, and one has it
-  pub best-bounds : {v : ℕ} {p : List ℕ} → PathTo es v p → C .Good (bestSum f es d v) (delaySum d p)
-  unfolding bestSum
-  best-bounds P = best-good C (sum-in P)
+  pub extreme-bounds : {v : ℕ} {p : List ℕ} → PathTo es v p → C .Good (extremeSum f es d v) (delaySum d p)
+  unfolding extremeSum
+  extreme-bounds P = extreme-good C (sum-in P)
 
-  pub best-attained : {v : ℕ} {p : List ℕ} → PathTo es v p → (q : List ℕ) × PathTo es v q × (delaySum d q ≡ bestSum f es d v)
-  unfolding bestSum
-  best-attained {v} P =
-      let r = Memᴰ·of-map (delaySum d) (pathsTo es v) (best-at C _ (sum-in P)) in
+  pub extreme-attained : {v : ℕ} {p : List ℕ} → PathTo es v p → (q : List ℕ) × PathTo es v q × (delaySum d q ≡ extremeSum f es d v)
+  unfolding extremeSum
+  extreme-attained {v} P =
+      let r = Memᴰ·of-map (delaySum d) (pathsTo es v) (extreme-at C _ (sum-in P)) in
       (r .0, listed→path es v (r .0) (r .1), r .2)
 
-  pub best-reached : (v : ℕ) → Settled es v → (p : List ℕ) × PathTo es v p × (delaySum d p ≡ bestSum f es d v)
-  best-reached v s = best-attained (path-exists es v s .1)
+  pub extreme-reached : (v : ℕ) → Settled es v → (p : List ℕ) × PathTo es v p × (delaySum d p ≡ extremeSum f es d v)
+  extreme-reached v s = extreme-attained (path-exists es v s .1)
 
   -- where there is a path, the best sum is the extreme one, and the only one
-  pub best-extreme : {v : ℕ} {p : List ℕ} → PathTo es v p → Extreme (C .Good) es (delaySum d) v (bestSum f es d v)
-  best-extreme P = let r = best-attained P in record { path = r .0; is-path = r .1; has-sum = r .2; bounds = λ p Q. best-bounds Q }
+  pub sum-is-extreme : {v : ℕ} {p : List ℕ} → PathTo es v p → IsExtreme (C .Good) es (delaySum d) v (extremeSum f es d v)
+  sum-is-extreme P = let r = extreme-attained P in record { path = r .0; is-path = r .1; has-sum = r .2; bounds = λ p Q. extreme-bounds Q }
 
-  pub extreme-best : {v n : ℕ} → Extreme (C .Good) es (delaySum d) v n → n ≡ bestSum f es d v
-  extreme-best {v} {n} x =
-      let r = best-attained (x .is-path) in
-      C .good-both n (bestSum f es d v) (subst (C .Good n) (r .2) (x .bounds (r .0) (r .1))) (subst (C .Good (bestSum f es d v)) (x .has-sum) (best-bounds (x .is-path)))
+  pub extreme-is-sum : {v n : ℕ} → IsExtreme (C .Good) es (delaySum d) v n → n ≡ extremeSum f es d v
+  extreme-is-sum {v} {n} x =
+      let r = extreme-attained (x .is-path) in
+      C .good-both n (extremeSum f es d v) (subst (C .Good n) (r .2) (x .bounds (r .0) (r .1))) (subst (C .Good (extremeSum f es d v)) (x .has-sum) (extreme-bounds (x .is-path)))
 
   -- what an incoming edge from u brings: u's best sum with u's delay
   unfoldable pub through : ℕ → ℕ
-  through u = saturatingAdd (bestSum f es d u) (d u)
+  through u = saturatingAdd (extremeSum f es d u) (d u)
 
   down : {v : ℕ} {p : List ℕ} (u : ℕ) → List·Memᴰ (u ⟶ v) es → PathTo es v p → (y : ℕ) × List·Memᴰ y (map through (settledSources es v)) × C .Good y (delaySum d p)
   unfolding through delaySum saturatingAdd
   down u m (only h) = absurd (h u m)
   down u m (then {u = w} {p = p} k s P) =
-      (through w, Memᴰ·map through (source-in es k s), C .onto (d w) _ _ (best-bounds P))
+      (through w, Memᴰ·map through (source-in es k s), C .onto (d w) _ _ (extreme-bounds P))
 
   up : (v : ℕ) {w : ℕ} → List·Memᴰ w (settledSources es v) → List·Memᴰ (through w) (map (delaySum d) (pathsTo es v))
   unfolding through delaySum
   up v {w} n =
       let k = source-out es n in
-      let r = best-reached w (k .1) in
+      let r = extreme-reached w (k .1) in
       Memᴰ·cast (ap (λ n. saturatingAdd n (d w)) (sym (r .2))) (sum-in (then (k .0) (k .1) (r .1)))
 
   -- the best sum at a component with an edge into it, from those of its settled sources
-  pub best-step : (v : ℕ) (u : ℕ) → List·Memᴰ (u ⟶ v) es → bestSum f es d v ≡ best f (map through (settledSources es v))
-  unfolding bestSum
-  best-step v u m = best-same C _ _ below above
+  pub extreme-step : (v : ℕ) (u : ℕ) → List·Memᴰ (u ⟶ v) es → extremeSum f es d v ≡ extreme f (map through (settledSources es v))
+  unfolding extremeSum
+  extreme-step v u m = extreme-same C _ _ below above
     where
       below : Under C (map (delaySum d) (pathsTo es v)) (map through (settledSources es v))
       below x n =

@@ -5,7 +5,7 @@ use mathlib.Core.Path.{_≡_, refl, sym, ap, subst, _∙_}
 use mathlib.Core.Logic.{_⊎_, inl, inr}
 use Prim.Native.Nat.{ℕ, zero, suc}
 use lib.Dec.{T, eqb, eqb→eq, eqb-refl}
-use Rattle.rules.specs.Graph.{Edge, _⟶_, src, dst, reach, Walk, stop, step}
+use Rattle.rules.specs.Graph.{Edge, _⟶_, sourceOf, sinkOf, reach, Walk, stop, step}
 use Rattle.rules.proofs.Lists.{or-left, or-right, or-cases, and-left, and-right, and-both, same-test, eq-test, tests}
 
 abbrev pub Within : List Edge → List Edge → Type 0
@@ -43,10 +43,10 @@ module _ (a b : ℕ) (es : List Edge) (ih : (x y : ℕ) → Walk es x y → T (r
   first-step u w v e t = go (or-cases (reach es w v) _ t)
     where
       to-a : T (reach es u a)
-      to-a = subst (λ x. T (reach es x a)) (sym (ap src e)) (reach-refl es a)
+      to-a = subst (λ x. T (reach es x a)) (sym (ap sourceOf e)) (reach-refl es a)
 
       go : T (reach es w v) ⊎ T (reach es w a && reach es b v) → T (reach es u v || reach es u a && reach es b v)
-      go (inl s) = let from-b = subst (λ x. T (reach es x v)) (ap dst e) s in search (tests, to-a)
+      go (inl s) = let from-b = subst (λ x. T (reach es x v)) (ap sinkOf e) s in search (tests, to-a)
       go (inr s) = search (tests, to-a)
 
   later-step : (u w v : ℕ) → List·Memᴰ (u ⟶ w) es → T (reach ((a ⟶ b) ∷ es) w v) → T (reach ((a ⟶ b) ∷ es) u v)

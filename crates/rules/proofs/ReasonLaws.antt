@@ -7,31 +7,32 @@ use Prim.Native.Nat.{ℕ, _≤_, min, max}
 use native.Mathlib.Omega.{arith}
 use lib.Dec.{T, T-not, not-T, eqb, eqb→eq, eqb-refl, leb, leb→le, le→leb}
 use Rattle.rules.specs.Lists.{any, keep}
-use Rattle.rules.specs.Scene.{Component, idOf, row, delayAt}
-use Rattle.rules.specs.Graph.{Edge, inCount, reach, sameComponent}
-use Rattle.rules.specs.Paths.{pathsTo, delaySum, best, bestSum, smallestSum, largestSum, PathTo, Smallest, Largest, Extreme}
-use Rattle.rules.specs.Reasons.{passive, statefulOrMechanical, otherIn, inFeedback, feedback, Reason, unequalReconvergentDelay, feedbackLoop, statefulOrMechanicalDevice, lockedRepeater, reasonKind, feedbackReason, ownReason, unequalAt, unequalReason, unequalReasonsBy, unequalReasons, temporalReasons, reasons, risingIds, OnFeedback, UnequalDelay}
+use Rattle.rules.specs.Kinds.{repeaterCode, comparatorCode, pistonCode}
+use Rattle.rules.specs.Scene.{Component, idOf, rowOf, delayAt, risingIds}
+use Rattle.rules.specs.Graph.{Edge, inCount, reach, stronglyConnected}
+use Rattle.rules.specs.Paths.{pathsTo, delaySum, extreme, extremeSum, smallestSum, largestSum, PathTo, Smallest, Largest, IsExtreme}
+use Rattle.rules.specs.Reasons.{passive, otherIn, inFeedback, feedback, Reason, unequalReconvergentDelay, feedbackLoop, statefulOrMechanicalDevice, lockedRepeater, reasonKind, feedbackReason, ownReason, unequalAt, unequalReason, unequalReasonsBy, unequalReasons, temporalReasons, reasons, OnFeedback, UnequalDelay}
 use Rattle.rules.specs.declared.kinds.KindRow.{KindRow}
 use Rattle.rules.proofs.Lists.{tests, any-in, any-out, keep-in, keep-out, flat-out, eq-test, and-left, and-right, and-both}
 use Rattle.rules.proofs.Permutations.{perm-mem}
 use Rattle.rules.proofs.Reach.{reach→walk, walk→reach}
 use Rattle.rules.proofs.Paths.{listed→path}
 use Rattle.rules.proofs.Sums.{smaller, larger}
-use Rattle.rules.proofs.Ranges.{best-extreme, extreme-best}
+use Rattle.rules.proofs.Ranges.{sum-is-extreme, extreme-is-sum}
 use Rattle.rules.proofs.Sorting.{rising-ids-perm}
 
 module _ (cs : List Component) (es : List Edge) where
   -- a component passes the Feedback test exactly if it is on feedback
-  pub feedback→ : (c : Component) → T (inFeedback cs (sameComponent es) c) → OnFeedback cs es c
-  unfolding inFeedback sameComponent
+  pub feedback→ : (c : Component) → T (inFeedback cs (stronglyConnected es) c) → OnFeedback cs es c
+  unfolding inFeedback stronglyConnected
   feedback→ c t =
-      let a = and-left (not (passive (row c .node))) (any (otherIn (sameComponent es) (c .id)) cs) t in
-      let r = any-out (otherIn (sameComponent es) (c .id)) cs (and-right (not (passive (row c .node))) _ t) in
+      let a = and-left (not (passive (rowOf c .node))) (any (otherIn (stronglyConnected es) (c .id)) cs) t in
+      let r = any-out (otherIn (stronglyConnected es) (c .id)) cs (and-right (not (passive (rowOf c .node))) _ t) in
       let d = r .0 in
-      let n = and-left (not (eqb (d .id) (c .id))) (sameComponent es (c .id) (d .id)) (r .2) in
-      let s = and-right (not (eqb (d .id) (c .id))) (sameComponent es (c .id) (d .id)) (r .2) in
+      let n = and-left (not (eqb (d .id) (c .id))) (stronglyConnected es (c .id) (d .id)) (r .2) in
+      let s = and-right (not (eqb (d .id) (c .id))) (stronglyConnected es (c .id) (d .id)) (r .2) in
       record {
-        active = T-not (passive (row c .node)) a;
+        active = T-not (passive (rowOf c .node)) a;
         other = d;
         listed = r .1;
         different = λ e. T-not (eqb (d .id) (c .id)) n (eq-test e);
@@ -39,11 +40,11 @@ module _ (cs : List Component) (es : List Edge) where
         back = reach→walk es (d .id) (c .id) (and-right (reach es (c .id) (d .id)) (reach es (d .id) (c .id)) s);
       }
 
-  pub →feedback : (c : Component) → OnFeedback cs es c → T (inFeedback cs (sameComponent es) c)
-  unfolding inFeedback sameComponent
+  pub →feedback : (c : Component) → OnFeedback cs es c → T (inFeedback cs (stronglyConnected es) c)
+  unfolding inFeedback stronglyConnected
   →feedback c o =
-      and-both (not (passive (row c .node))) _ (not-T (passive (row c .node)) (o .active))
-      (any-in (otherIn (sameComponent es) (c .id)) (o .listed)
+      and-both (not (passive (rowOf c .node))) _ (not-T (passive (rowOf c .node)) (o .active))
+      (any-in (otherIn (stronglyConnected es) (c .id)) (o .listed)
       (and-both (not (eqb (o .other .id) (c .id))) _ (not-T (eqb (o .other .id) (c .id)) (λ t. o .different (eqb→eq (o .other .id) (c .id) t)))
       (and-both (reach es (c .id) (o .other .id)) _ (walk→reach es (c .id) (o .other .id) (o .there)) (walk→reach es (o .other .id) (c .id) (o .back)))))
 
@@ -51,19 +52,19 @@ module _ (cs : List Component) (es : List Edge) where
   pub listed-feedback→ : (v : ℕ) → List·Memᴰ v (feedback cs es) → (c : Component) × List·Memᴰ c cs × OnFeedback cs es c × (c .id ≡ v)
   unfolding feedback
   listed-feedback→ v m =
-      let test = inFeedback cs (sameComponent es) in
+      let test = inFeedback cs (stronglyConnected es) in
       let r = Memᴰ·of-map idOf (keep test cs) m in
       let k = keep-out test cs (r .1) in
       (r .0, k .0, feedback→ (r .0) (k .1), r .2)
 
   pub →listed-feedback : (c : Component) → List·Memᴰ c cs → OnFeedback cs es c → List·Memᴰ (c .id) (feedback cs es)
   unfolding feedback
-  →listed-feedback c m o = Memᴰ·map idOf (keep-in (inFeedback cs (sameComponent es)) m (→feedback c o))
+  →listed-feedback c m o = Memᴰ·map idOf (keep-in (inFeedback cs (stronglyConnected es)) m (→feedback c o))
 
   -- the first three kinds of reason are no unequal delays
   own-kind : (c : Component) (r : Reason) → List·Memᴰ r (ownReason c) → 1 ≤ reasonKind r
   unfolding ownReason
-  own-kind c r m = go (statefulOrMechanical (row c .node)) (eqb (c .kind) 10 && eqb (c .locked) 1) m
+  own-kind c r m = go (eqb (c .kind) comparatorCode || eqb (c .kind) pistonCode) (eqb (c .kind) repeaterCode && eqb (c .locked) 1) m
     where
       go : (a b : Bool) → List·Memᴰ r (cond a (statefulOrMechanicalDevice (c .id) (c .kind) ∷ []) (cond b (lockedRepeater (c .id) ∷ []) [])) → 1 ≤ reasonKind r
       go true b n = subst (λ x. 1 ≤ reasonKind x) (sym (List·Memᴰ·eq-of-singleton n)) (omega arith)
@@ -81,7 +82,7 @@ module _ (cs : List Component) (es : List Edge) where
       ⊎-elim (loop-kind (feedback cs es) r) (λ n. let k = flat-out ownReason cs n in own-kind (k .0) r (k .2)) (List·Memᴰ·append-cases (feedbackReason (feedback cs es)) m)
 
   some-path : (low high : ℕ → ℕ) (v : ℕ) → (smallestSum es low v ≡ largestSum es high v → ⊥) → (p : List ℕ) × PathTo es v p
-  unfolding bestSum best
+  unfolding extremeSum extreme
   some-path low high v h = go (pathsTo es v) refl
     where
       go : (l : List (List ℕ)) → pathsTo es v ≡ l → (p : List ℕ) × PathTo es v p
@@ -103,16 +104,16 @@ module _ (cs : List Component) (es : List Edge) where
         record {
           component = perm-mem (Permᴰ·symm (rising-ids-perm cs)) v m;
           incoming = leb→le 2 (inCount es v) (and-left (leb 2 (inCount es v)) (not (eqb low high)) t);
-          smallest = best-extreme smaller es d (p .1);
-          largest = best-extreme larger es e (p .1);
+          smallest = sum-is-extreme smaller es d (p .1);
+          largest = sum-is-extreme larger es e (p .1);
           differ = h;
         }
 
     →unequal-here : (a b : ℕ) → UnequalDelay cs es (delaySum d) (delaySum e) v a b → T (unequalAt es d e v) × (unequalReason es d e v ≡ unequalReconvergentDelay v a b)
     unfolding unequalAt unequalReason
     →unequal-here a b u =
-        let p : a ≡ low = extreme-best smaller es d (u .smallest) in
-        let q : b ≡ high = extreme-best larger es e (u .largest) in
+        let p : a ≡ low = extreme-is-sum smaller es d (u .smallest) in
+        let q : b ≡ high = extreme-is-sum larger es e (u .largest) in
         (and-both (leb 2 (inCount es v)) _ (le→leb 2 (inCount es v) (u .incoming)) (not-T (eqb low high) (λ t. u .differ (p ∙ eqb→eq low high t ∙ sym q))), cc)
 
   -- an unequal-delay reason is listed exactly where the delays are unequal, with the two sums

@@ -6,7 +6,7 @@ use Prim.Native.Nat.{ℕ, zero, suc, _≤_, _<_, _+_, min, max}
 use native.Mathlib.Omega.{arith}
 use native.Mathlib.Decide.{decLe}
 use Rattle.rules.specs.Delay.{cap}
-use Rattle.rules.specs.Paths.{best}
+use Rattle.rules.specs.Paths.{extreme}
 
 pub order : (a b : ℕ) → (a ≤ b) ⊎ (b < a)
 order a b = go (decLe a b)
@@ -53,35 +53,35 @@ larger = record {
 module _ {f : ℕ → ℕ → ℕ} (C : Choice f) where
   open Choice C using (Good, good-refl, good-trans, good-both, good-left, good-right, one-of)
 
-  best-in : (x : ℕ) (l : List ℕ) → List·Memᴰ (best f (x ∷ l)) (x ∷ l)
-  unfolding best
-  best-in x [] = List·Memᴰ·head refl
-  best-in x (y ∷ l) = go (best-in y l) (one-of x (best f (y ∷ l)))
+  extreme-in : (x : ℕ) (l : List ℕ) → List·Memᴰ (extreme f (x ∷ l)) (x ∷ l)
+  unfolding extreme
+  extreme-in x [] = List·Memᴰ·head refl
+  extreme-in x (y ∷ l) = go (extreme-in y l) (one-of x (extreme f (y ∷ l)))
     where
-      go : List·Memᴰ (best f (y ∷ l)) (y ∷ l) → (f x (best f (y ∷ l)) ≡ x) ⊎ (f x (best f (y ∷ l)) ≡ best f (y ∷ l)) → List·Memᴰ (f x (best f (y ∷ l))) (x ∷ y ∷ l)
+      go : List·Memᴰ (extreme f (y ∷ l)) (y ∷ l) → (f x (extreme f (y ∷ l)) ≡ x) ⊎ (f x (extreme f (y ∷ l)) ≡ extreme f (y ∷ l)) → List·Memᴰ (f x (extreme f (y ∷ l))) (x ∷ y ∷ l)
       go m (inl e) = List·Memᴰ·head e
       go m (inr e) = List·Memᴰ·tail (Memᴰ·cast e m)
 
-  pub best-at : {x : ℕ} (l : List ℕ) → List·Memᴰ x l → List·Memᴰ (best f l) l
-  best-at [] m = absurd (List·Memᴰ·not-nil m)
-  best-at (y ∷ l) m = best-in y l
+  pub extreme-at : {x : ℕ} (l : List ℕ) → List·Memᴰ x l → List·Memᴰ (extreme f l) l
+  extreme-at [] m = absurd (List·Memᴰ·not-nil m)
+  extreme-at (y ∷ l) m = extreme-in y l
 
-  pub best-good : {x : ℕ} {l : List ℕ} → List·Memᴰ x l → Good (best f l) x
-  unfolding best
-  best-good {x} {l = y ∷ []} (List·Memᴰ·head e) = subst (Good y) (sym e) (good-refl y)
-  best-good {l = y ∷ []} (List·Memᴰ·tail m) = absurd (List·Memᴰ·not-nil m)
-  best-good {x} {l = y ∷ z ∷ l} (List·Memᴰ·head e) = subst (Good (f y (best f (z ∷ l)))) (sym e) (good-left y (best f (z ∷ l)))
-  best-good {x} {l = y ∷ z ∷ l} (List·Memᴰ·tail m) = good-trans _ _ _ (good-right y (best f (z ∷ l))) (best-good m)
+  pub extreme-good : {x : ℕ} {l : List ℕ} → List·Memᴰ x l → Good (extreme f l) x
+  unfolding extreme
+  extreme-good {x} {l = y ∷ []} (List·Memᴰ·head e) = subst (Good y) (sym e) (good-refl y)
+  extreme-good {l = y ∷ []} (List·Memᴰ·tail m) = absurd (List·Memᴰ·not-nil m)
+  extreme-good {x} {l = y ∷ z ∷ l} (List·Memᴰ·head e) = subst (Good (f y (extreme f (z ∷ l)))) (sym e) (good-left y (extreme f (z ∷ l)))
+  extreme-good {x} {l = y ∷ z ∷ l} (List·Memᴰ·tail m) = good-trans _ _ _ (good-right y (extreme f (z ∷ l))) (extreme-good m)
 
   -- each entry of l has one of r that is at least as good
   abbrev pub Under : List ℕ → List ℕ → Type 0
   Under l r = (x : ℕ) → List·Memᴰ x l → (y : ℕ) × List·Memᴰ y r × Good y x
 
-  pub best-same : (l r : List ℕ) → Under l r → Under r l → best f l ≡ best f r
-  best-same [] [] h k = refl
-  best-same [] (y ∷ r) h k = absurd (List·Memᴰ·not-nil (k y (List·Memᴰ·head refl) .1))
-  best-same (x ∷ l) [] h k = absurd (List·Memᴰ·not-nil (h x (List·Memᴰ·head refl) .1))
-  best-same (x ∷ l) (y ∷ r) h k =
-      let a = h (best f (x ∷ l)) (best-in x l) in
-      let b = k (best f (y ∷ r)) (best-in y r) in
-      good-both _ _ (good-trans _ _ _ (best-good (b .1)) (b .2)) (good-trans _ _ _ (best-good (a .1)) (a .2))
+  pub extreme-same : (l r : List ℕ) → Under l r → Under r l → extreme f l ≡ extreme f r
+  extreme-same [] [] h k = refl
+  extreme-same [] (y ∷ r) h k = absurd (List·Memᴰ·not-nil (k y (List·Memᴰ·head refl) .1))
+  extreme-same (x ∷ l) [] h k = absurd (List·Memᴰ·not-nil (h x (List·Memᴰ·head refl) .1))
+  extreme-same (x ∷ l) (y ∷ r) h k =
+      let a = h (extreme f (x ∷ l)) (extreme-in x l) in
+      let b = k (extreme f (y ∷ r)) (extreme-in y r) in
+      good-both _ _ (good-trans _ _ _ (extreme-good (b .1)) (b .2)) (good-trans _ _ _ (extreme-good (a .1)) (a .2))

@@ -5,7 +5,7 @@ use Prim.Native.Nat.{ℕ, zero, suc, _<_, _≤_}
 use native.Mathlib.Omega.{arith}
 use borrow.Author.Tests.{lt-ltb, le-ltb}
 use lib.ListN.{length, getD, List·getD-eq-default}
-use Rattle.rules.specs.Kinds.{kindTable, kindRow, conductor, delayBy, wordDelay}
+use Rattle.rules.specs.Kinds.{kindTable, kindRow, conductor, delayBy, componentDelay}
 use Rattle.rules.specs.declared.kinds.KindRow.{KindRow}
 use Rattle.rules.specs.declared.kinds.KindDelay.the-variants.{Fixed, Own}
 
@@ -25,14 +25,14 @@ row-past code h = sym (List·getD-eq-default kindTable conductor h)
 
 -- a delay by what the row says
 module _ (code word ticks : ℕ) where
-  pub delay-fixed : kindRow code .delay ≡ Fixed ticks → ticks ≡ wordDelay code word
-  unfolding wordDelay delayBy
+  pub delay-fixed : kindRow code .delay ≡ Fixed ticks → ticks ≡ componentDelay code word
+  unfolding componentDelay delayBy
   delay-fixed e = sym (ap (λ k. delayBy k word) e)
 
-  pub delay-own : kindRow code .delay ≡ Own ticks → word < 256 → word ≡ wordDelay code word
-  unfolding wordDelay delayBy
+  pub delay-own : kindRow code .delay ≡ Own ticks → word < 256 → word ≡ componentDelay code word
+  unfolding componentDelay delayBy
   delay-own e h = sym (ap (λ k. delayBy k word) e ∙ rw (lt-ltb word 256 h))
 
-  pub delay-absent : kindRow code .delay ≡ Own ticks → 256 ≤ word → ticks ≡ wordDelay code word
-  unfolding wordDelay delayBy
+  pub delay-absent : kindRow code .delay ≡ Own ticks → 256 ≤ word → ticks ≡ componentDelay code word
+  unfolding componentDelay delayBy
   delay-absent e h = sym (ap (λ k. delayBy k word) e ∙ rw (le-ltb word 256 h))

@@ -4,11 +4,12 @@ use mathlib.Core.List.{List, [], _∷_}
 use Prim.Native.Nat.{ℕ, _+_, _*_}
 use lib.ListN.{length}
 use Rattle.rules.specs.Lists.{count}
-use Rattle.rules.specs.Scene.{Component, Scene, edges}
+use Rattle.rules.specs.Codes.{scopeCode, patternCode}
+use Rattle.rules.specs.Scene.{Component, Scene, ComponentLists, ConnectionLists, edges}
 use Rattle.rules.specs.Reasons.{reasons, feedback, scope, pattern}
 use Rattle.rules.specs.Projection.{compressed, projected, pathIds}
 use Rattle.rules.specs.Graph.{Edge}
-use Rattle.rules.specs.Refusals.{Output, output}
+use Rattle.rules.specs.Refusals.{SceneLimits, Output, output, checkScene}
 use Rattle.rules.specs.declared.answers.Assessment.{Assessment}
 use Rattle.rules.specs.declared.answers.Checked.{Checked}
 use Rattle.rules.specs.declared.answers.Checked.the-variants.{Accepted, Refused}
@@ -20,7 +21,11 @@ abbrev pub assessOutputs : (n m : ℕ) → (reasonLengths feedbackLengths markLe
 assessOutputs n m l3 l4 l5 l6 l7 l8 =
     output 3 (2 * n + 1) l3 ∷ output 4 n l4 ∷ output 5 n l5 ∷ output 6 m l6 ∷ output 7 (2 * m + n) l7 ∷ output 8 n l8 ∷ []
 
--- scope, pattern, "Confidence is 100", and how many entries of each list are used
+-- the checks of the call
+unfoldable pub checkAssess : SceneLimits → ComponentLists → ConnectionLists → (reasonLengths feedbackLengths markLengths projectedLengths pathLengths labelLengths : List ℕ) → Checked
+checkAssess limits l m l3 l4 l5 l6 l7 l8 = checkScene limits l m (assessOutputs (length (l .ids)) (length (m .sources)) l3 l4 l5 l6 l7 l8)
+
+-- scope, pattern, "Confidence is 100", how many entries of lists 3, 4, 6 and 7 are used, and how many of list 5 are 1 and 0
 unfoldable pub assessment : List Component → List Edge → Assessment
 assessment cs es =
     record {
@@ -39,3 +44,10 @@ assessment cs es =
 abbrev pub sceneAnswer : Checked → Scene → SceneAnswer
 sceneAnswer Accepted s = Answer.Assessed (assessment (s .components) (edges s))
 sceneAnswer (Refused number place) s = Answer.Refused number place
+
+-- the answer's numbers: refusal, place, scope, pattern, confidence, then the counts
+abbrev pub sceneNumbers : SceneAnswer → List ℕ
+sceneNumbers (Answer.Refused number place) = number ∷ place ∷ 0 ∷ 0 ∷ 0 ∷ 0 ∷ 0 ∷ 0 ∷ 0 ∷ 0 ∷ 0 ∷ []
+sceneNumbers (Answer.Assessed a) =
+    0 ∷ 0 ∷ scopeCode (a .scope) ∷ patternCode (a .pattern) ∷ a .confidence ∷ a .reasons ∷ a .feedback ∷ a .retained ∷ a .compressed ∷ a .projected
+    ∷ a .«path_ids» ∷ []

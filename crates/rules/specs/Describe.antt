@@ -6,8 +6,8 @@ use lib.ListN.{length}
 use Rattle.rules.specs.Lists.{keep}
 use Rattle.rules.specs.Kinds.{isDevice}
 use Rattle.rules.specs.Codes.{behaviorCode, semanticsCode}
-use Rattle.rules.specs.Scene.{Component, Connection, Scene, isEdge, row, componentDelay, rowAt, delayAt}
-use Rattle.rules.specs.Refusals.{Output, output}
+use Rattle.rules.specs.Scene.{Component, Connection, Scene, ComponentLists, ConnectionLists, isEdge, rowOf, delayOf, rowAt, delayAt}
+use Rattle.rules.specs.Refusals.{SceneLimits, Output, output, checkScene}
 use Rattle.rules.specs.declared.kinds.DeviceMeaning.{DeviceMeaning}
 use Rattle.rules.specs.declared.kinds.DeviceMeaning.the-variants.{NoDevice, Device}
 use Rattle.rules.specs.declared.kinds.KindRow.{KindRow}
@@ -40,7 +40,7 @@ unfoldable pub timedEdges : List Component → List Connection → List TimedEdg
 timedEdges cs ns = map (timedEdge (delayAt cs) (delayAt cs) cs) (keep isEdge ns)
 
 -- an entry of list 1
-pub record TimedDevice : Type 0 where
+pub record TemporalDevice : Type 0 where
   pub component : ℕ
   pub x : ℤ
   pub y : ℤ
@@ -52,17 +52,17 @@ abbrev pub meaningCode : DeviceMeaning → ℕ
 meaningCode NoDevice = 0
 meaningCode (Device s) = semanticsCode s
 
-unfoldable pub timedDevice : Component → TimedDevice
-timedDevice c =
-    record { component = c .id; x = c .x; y = c .y; z = c .z; semantics = meaningCode (row c .meaning); minimumDelay = componentDelay c }
+unfoldable pub temporalDevice : Component → TemporalDevice
+temporalDevice c =
+    record { component = c .id; x = c .x; y = c .y; z = c .z; semantics = meaningCode (rowOf c .meaning); minimumDelay = delayOf c }
 
 -- "Kinds 9 to 12 are devices": those of the scene, in component order
 unfoldable pub deviceComponents : List Component → List Component
-deviceComponents cs = keep (λ c. isDevice (row c)) cs
+deviceComponents cs = keep (λ c. isDevice (rowOf c)) cs
 
 -- list 1
-unfoldable pub devices : List Component → List TimedDevice
-devices cs = map timedDevice (deviceComponents cs)
+unfoldable pub devices : List Component → List TemporalDevice
+devices cs = map temporalDevice (deviceComponents cs)
 
 -- an entry of list 2
 pub data Evidence : Type 0 where
@@ -105,8 +105,17 @@ evidence cs ns = map connectionEvidence ns ++ map deviceEvidence (deviceComponen
 abbrev pub describeOutputs : (n m : ℕ) → (edgeLengths deviceLengths evidenceLengths : List ℕ) → List Output
 describeOutputs n m l0 l1 l2 = output 0 m l0 ∷ output 1 n l1 ∷ output 2 (m + n) l2 ∷ []
 
+-- the checks of the call
+unfoldable pub checkDescribe : SceneLimits → ComponentLists → ConnectionLists → (edgeLengths deviceLengths evidenceLengths : List ℕ) → Checked
+checkDescribe limits l m l0 l1 l2 = checkScene limits l m (describeOutputs (length (l .ids)) (length (m .sources)) l0 l1 l2)
+
 -- the answer: the refusal, or how many entries of each list are used
 abbrev pub description : Checked → Scene → Description
 description Accepted s =
     Answer.Described (length (timedEdges (s .components) (s .connections))) (length (devices (s .components))) (length (evidence (s .components) (s .connections)))
 description (Refused number place) s = Answer.Refused number place
+
+-- the answer's numbers: refusal, place, then the counts of lists 0, 1 and 2
+abbrev pub descriptionNumbers : Description → List ℕ
+descriptionNumbers (Answer.Refused number place) = number ∷ place ∷ 0 ∷ 0 ∷ 0 ∷ []
+descriptionNumbers (Answer.Described edges devices evidence) = 0 ∷ 0 ∷ edges ∷ devices ∷ evidence ∷ []

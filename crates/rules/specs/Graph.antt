@@ -11,17 +11,17 @@ infix 60 _⟶_
 pub data Edge : Type 0 where
   _⟶_ : ℕ → ℕ → Edge
 
-abbrev pub src : Edge → ℕ
-src (a ⟶ b) = a
+abbrev pub sourceOf : Edge → ℕ
+sourceOf (a ⟶ b) = a
 
-abbrev pub dst : Edge → ℕ
-dst (a ⟶ b) = b
+abbrev pub sinkOf : Edge → ℕ
+sinkOf (a ⟶ b) = b
 
 abbrev pub startsAt : ℕ → Edge → Bool
-startsAt v e = eqb (src e) v
+startsAt v e = eqb (sourceOf e) v
 
 abbrev pub endsAt : ℕ → Edge → Bool
-endsAt v e = eqb (dst e) v
+endsAt v e = eqb (sinkOf e) v
 
 -- how many edges end at v, and how many start there
 unfoldable pub inCount : List Edge → ℕ → ℕ
@@ -40,17 +40,17 @@ reach ((a ⟶ b) ∷ es) u v =
 
 -- the edge is on a cycle ("a self-edge is a cycle"), and v is reached from there
 abbrev pub cycleReaching : List Edge → ℕ → Edge → Bool
-cycleReaching es v e = reach es (dst e) (src e) && reach es (src e) v
+cycleReaching es v e = reach es (sinkOf e) (sourceOf e) && reach es (sourceOf e) v
 
 -- "A component is settled if it is on no cycle and not reachable from one."
 unfoldable pub settled : List Edge → ℕ → Bool
 settled es v = not (any (cycleReaching es v) es)
 
 -- "a maximal set of vertices of a directed graph in which every vertex is reachable from every other": u and v share theirs
-unfoldable pub sameComponent : List Edge → ℕ → ℕ → Bool
-sameComponent es u v = reach es u v && reach es v u
+unfoldable pub stronglyConnected : List Edge → ℕ → ℕ → Bool
+stronglyConnected es u v = reach es u v && reach es v u
 
--- The same notions without computation; crate laws shows that they agree
+-- The same notions without computation; proofs/Reach and proofs/Paths show that they agree
 
 -- a row of edges from u to v
 pub data Walk (es : List Edge) : ℕ → ℕ → Type 0 where

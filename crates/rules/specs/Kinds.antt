@@ -38,6 +38,16 @@ comparator = record { node = Comparator; delay = Fixed 0; behavior = EdgeBehavio
 abbrev pub piston : KindRow
 piston = record { node = Actuator; delay = Fixed 1; behavior = EdgeBehavior.Mechanical; meaning = Device TemporalSemantics.MechanicalActuation }
 
+-- the codes of three kinds that the reasons name
+abbrev pub repeaterCode : ℕ
+repeaterCode = 10
+
+abbrev pub comparatorCode : ℕ
+comparatorCode = 11
+
+abbrev pub pistonCode : ℕ
+pistonCode = 12
+
 -- by code: Air, Solid, Transparent, Lever, Button, PressurePlate, RedstoneLamp, RedstoneBlock, RedstoneWire, RedstoneTorch, Repeater, Comparator, Piston
 abbrev pub kindTable : List KindRow
 kindTable =
@@ -53,14 +63,14 @@ delayBy (Fixed ticks) word = ticks
 delayBy (Own absent) word = cond (ltb word 256) word absent
 
 -- the delay by kind code and delay word
-unfoldable pub wordDelay : ℕ → ℕ → ℕ
-wordDelay code word = delayBy (kindRow code .delay) word
+unfoldable pub componentDelay : ℕ → ℕ → ℕ
+componentDelay code word = delayBy (kindRow code .delay) word
 
 -- "An edge takes its source's delay", and its source's edge behaviour
 abbrev pub edgeTiming : ℕ → ℕ → EdgeTiming
 edgeTiming code word =
     record {
-      delay = record { «minimum_redstone_ticks» = wordDelay code word; «maximum_redstone_ticks» = wordDelay code word };
+      delay = record { «minimum_redstone_ticks» = componentDelay code word; «maximum_redstone_ticks» = componentDelay code word };
       behavior = kindRow code .behavior;
     }
 

@@ -5,6 +5,7 @@ pub mod Codes
 pub mod Graph
 pub mod Scene
 pub mod Paths
+pub mod Labels
 pub mod Reasons
 pub mod Projection
 pub mod Refusals

@@ -7,9 +7,9 @@ use lib.ListN.{length, take, drop}
 
 module _ {A : Type 0} where
   -- something is listed
-  abbrev pub some : List A → Bool
-  some [] = false
-  some (x ∷ xs) = true
+  abbrev pub notEmpty : List A → Bool
+  notEmpty [] = false
+  notEmpty (x ∷ xs) = true
 
   -- some entry passes the test
   unfoldable pub any : (A → Bool) → List A → Bool
@@ -26,7 +26,7 @@ module _ {A : Type 0} where
   count f [] = 0
   count f (x ∷ xs) = let r = count f xs in cond (f x) (suc r) r
 
-  -- no entry stands twice
+  -- no entry stands twice (for the laws)
   abbrev pub Distinct : List A → Type 0
   Distinct [] = Unit {0}
   Distinct (x ∷ l) = (List·Memᴰ x l → ⊥) × Distinct l
@@ -63,6 +63,7 @@ unfoldable pub once : List ℕ → List ℕ
 once [] = []
 once (x ∷ xs) = let r = once xs in x ∷ keep (λ y. not (eqb y x)) r
 
+-- the sum, in whole numbers that don't wrap
 unfoldable pub sum : List ℕ → ℕ
 sum [] = 0
 sum (x ∷ xs) = x + sum xs

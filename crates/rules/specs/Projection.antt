@@ -4,11 +4,10 @@ use mathlib.Core.List.{List, [], _∷_, map, flatMap}
 use Prim.Native.Nat.{ℕ, zero, suc, _+_}
 use lib.Dec.{eqb, leb, ltb}
 use lib.ListN.{length, getD, take, drop}
-use Rattle.rules.specs.Lists.{keep, count}
-use Rattle.rules.specs.Scene.{Component, idOf, rowAt, delayAt}
-use Rattle.rules.specs.Graph.{Edge, src, dst, startsAt, inCount, outCount}
+use Rattle.rules.specs.Lists.{keep}
+use Rattle.rules.specs.Scene.{Component, risingIds, rowAt, delayAt}
+use Rattle.rules.specs.Graph.{Edge, sourceOf, sinkOf, startsAt, inCount, outCount}
 use Rattle.rules.specs.Paths.{delaySum}
-use Rattle.rules.specs.Reasons.{risingIds}
 use Rattle.rules.specs.declared.kinds.TemporalNodeKind.{TemporalNodeKind}
 use Rattle.rules.specs.declared.kinds.TemporalNodeKind.the-variants.{Source, Wire, Inverter, Delay, Comparator, Actuator, Conductor}
 use Rattle.rules.specs.declared.kinds.EdgeBehavior.{EdgeBehavior}
@@ -16,18 +15,18 @@ use Rattle.rules.specs.declared.kinds.EdgeBehavior.the-variants.{Immedia
 use Rattle.rules.specs.declared.kinds.KindRow.{KindRow}
 
 -- Wire, Conductor or Delay
-abbrev pub compressible : TemporalNodeKind → Bool
-compressible Source = false
-compressible Wire = true
-compressible Inverter = false
-compressible Delay = true
-compressible Comparator = false
-compressible Actuator = false
-compressible Conductor = true
+abbrev pub compressibleKind : TemporalNodeKind → Bool
+compressibleKind Source = false
+compressibleKind Wire = true
+compressibleKind Inverter = false
+compressibleKind Delay = true
+compressibleKind Comparator = false
+compressibleKind Actuator = false
+compressibleKind Conductor = true
 
 -- "A Wire, Conductor or Delay with exactly one incoming and one outgoing edge is compressed; all others are retained."
 unfoldable pub compressed : List Component → List Edge → ℕ → Bool
-compressed cs es v = compressible (rowAt cs v .node) && (eqb (inCount es v) 1 && eqb (outCount es v) 1)
+compressed cs es v = compressibleKind (rowAt cs v .node) && (eqb (inCount es v) 1 && eqb (outCount es v) 1)
 
 -- list 5, "1 for retained and 0 for compressed", in component order
 unfoldable pub marks : List Component → List Edge → List ℕ
@@ -43,7 +42,7 @@ firstEdges cs es = flatMap (λ v. keep (startsAt v) es) (retained cs es)
 
 -- where the first edge out of v leads; a compressed component has no other
 unfoldable pub next : List Edge → ℕ → ℕ
-next es v = getD (map dst (keep (startsAt v) es)) 0 v
+next es v = getD (map sinkOf (keep (startsAt v) es)) 0 v
 
 -- "the chain is walked through compressed components": the ids met from v on, in at most k steps
 unfoldable pub chain : ℕ → List Edge → (ℕ → Bool) → ℕ → List ℕ
@@ -52,9 +51,10 @@ chain (suc k) es through v =
     let r = chain k es through (next es v) in
     cond (through v) (v ∷ r) (v ∷ [])
 
--- "the ids met, ends included, are the path"; no chain has more steps than there are edges
+-- "the ids met, ends included, are the path". A chain from a retained component meets no compressed one twice, so as many steps as there
+-- are edges are enough (crate laws, Chains, chain-ends)
 unfoldable pub chainFrom : List Component → List Edge → Edge → List ℕ
-chainFrom cs es e = src e ∷ chain (length es) es (compressed cs es) (dst e)
+chainFrom cs es e = sourceOf e ∷ chain (length es) es (compressed cs es) (sinkOf e)
 
 -- all of a row but its last, and its last
 unfoldable pub beforeLast : List ℕ → List ℕ
@@ -86,7 +86,7 @@ unfoldable pub invertsAt : List Component → ℕ → Bool
 invertsAt cs v = isDelayedInvert (rowAt cs v .behavior)
 
 -- a projected edge with its path
-pub record Projected : Type 0 where
+pub record ProjectedEdge : Type 0 where
   pub source : ℕ
   pub sink : ℕ
   pub inverted : ℕ
@@ -95,10 +95,10 @@ pub record Projected : Type 0 where
   pub path : List ℕ
 
 -- "Delays add, inversion flips at DelayedInvert": each edge of the path takes them from its source
-unfoldable pub projectedBy : (ℕ → ℕ) → (ℕ → ℕ) → (ℕ → Bool) → Edge → List ℕ → Projected
+unfoldable pub projectedBy : (ℕ → ℕ) → (ℕ → ℕ) → (ℕ → Bool) → Edge → List ℕ → ProjectedEdge
 projectedBy low high inverts e p =
     record {
-      source = src e;
+      source = sourceOf e;
       sink = lastOf p;
       inverted = cond (flips inverts (beforeLast p)) 1 0;
       minimum = delaySum low (beforeLast p);
@@ -106,27 +106,32 @@ projectedBy low high inverts e p =
       path = p;
     }
 
-unfoldable pub projectedAlong : List Component → List Edge → Edge → Projected
+unfoldable pub projectedAlong : List Component → List Edge → Edge → ProjectedEdge
 projectedAlong cs es e = projectedBy (delayAt cs) (delayAt cs) (invertsAt cs) e (chainFrom cs es e)
 
 -- the projected edges, in the order of list 6
-unfoldable pub projected : List Component → List Edge → List Projected
+unfoldable pub projected : List Component → List Edge → List ProjectedEdge
 projected cs es = map (projectedAlong cs es) (firstEdges cs es)
 
--- "An entry of list 6 carries its path's start and length." Paths stand in list 7 one after the other, the first at the given place
-unfoldable pub startsFrom : ℕ → List Projected → List ℕ
+-- where paths start that stand one after the other, the first at the given place
+unfoldable pub startsFrom : ℕ → List ProjectedEdge → List ℕ
 startsFrom at [] = []
 startsFrom at (p ∷ ps) = at ∷ startsFrom (at + length (p .path)) ps
 
-abbrev pub pathLength : Projected → ℕ
+-- "An entry of list 6 carries its path's start and length." List 7 is packed from 0 on, in the order of list 6
+abbrev pub pathStarts : List ProjectedEdge → List ℕ
+pathStarts ps = startsFrom 0 ps
+
+abbrev pub pathLength : ProjectedEdge → ℕ
 pathLength p = length (p .path)
 
 -- list 7
-unfoldable pub pathIds : List Projected → List ℕ
+unfoldable pub pathIds : List ProjectedEdge → List ℕ
 pathIds ps = flatMap (λ p. p .path) ps
 
 -- "For one edge, the path is handed back as the part of list 7 that holds it. An edge number past the end of list 6, or a stored start
--- and length that don't lie within list 7, gives the empty part." The starts and lengths are two of list 6's fields
+-- and length that don't lie within list 7, gives the empty part." The starts and lengths are two of list 6's fields; its end is that of the
+-- shorter of the two, and an entry past those used is read as it stands
 unfoldable pub projectedPath : (paths starts lengths : List ℕ) → ℕ → List ℕ
 projectedPath paths starts lengths k =
     let start = getD starts k 0 in

@@ -28,8 +28,9 @@ eventAt l i = record { index = i; tick = getD (l .ticks) i 0; component = getD (
 unfoldable pub eventsOf : EventLists → List Event
 eventsOf l = map (eventAt l) (indices (length (l .ticks)))
 
-abbrev pub isPowered : Event → Bool
-isPowered e = ltb 0 (e .powered)
+-- a level is powered, or not
+abbrev pub isPowered : ℕ → Bool
+isPowered level = ltb 0 level
 
 abbrev pub agree : Bool → Bool → Bool
 agree a b = cond a b (not b)
@@ -37,7 +38,7 @@ agree a b = cond a b (not b)
 -- "each three successive events of it make a pulse if first and third agree, the second differs, and third tick > second tick"
 unfoldable pub isPulse : Event → Event → Event → Bool
 isPulse first second third =
-    agree (isPowered first) (isPowered third) && (not (agree (isPowered first) (isPowered second)) && ltb (second .tick) (third .tick))
+    agree (isPowered (first .powered)) (isPowered (third .powered)) && (not (agree (isPowered (first .powered)) (isPowered (second .powered))) && ltb (second .tick) (third .tick))
 
 pub record Pulse : Type 0 where
   pub component : ℕ
@@ -56,12 +57,12 @@ unfoldable pub pulseOf : TraceTimeUnit → Event → Event → Event → Pulse
 pulseOf unit first second third =
     record {
       component = second .component;
-      polarity = cond (isPowered second) High Low;
+      polarity = cond (isPowered (second .powered)) High Low;
       unit = unit;
       startTick = second .tick;
       endTick = third .tick;
       width = third .tick - second .tick;
-      steady = isPowered first;
+      steady = isPowered (first .powered);
       baselineEvent = first .index;
       startEvent = second .index;
       endEvent = third .index;

@@ -4,11 +4,11 @@ use mathlib.Core.List.{List, [], _∷_, _++_, map, flatMap, List·Memᴰ}
 use mathlib.Core.Path.{_≡_}
 use Prim.Native.Nat.{ℕ, _≤_}
 use lib.Dec.{T, eqb, leb}
-use Rattle.rules.specs.Lists.{some, any, keep, rising}
-use Rattle.rules.specs.Kinds.{isDevice}
-use Rattle.rules.specs.Scene.{Component, idOf, row, rowAt, delayAt}
-use Rattle.rules.specs.Graph.{Edge, inCount, sameComponent, Walk}
-use Rattle.rules.specs.Paths.{smallestSum, largestSum, Label, label, Smallest, Largest}
+use Rattle.rules.specs.Lists.{notEmpty, any, keep}
+use Rattle.rules.specs.Kinds.{isDevice, repeaterCode, comparatorCode, pistonCode}
+use Rattle.rules.specs.Scene.{Component, idOf, risingIds, rowOf, rowAt, delayAt}
+use Rattle.rules.specs.Graph.{Edge, inCount, stronglyConnected, Walk}
+use Rattle.rules.specs.Paths.{smallestSum, largestSum, Smallest, Largest}
 use Rattle.rules.specs.declared.kinds.TemporalNodeKind.{TemporalNodeKind}
 use Rattle.rules.specs.declared.kinds.TemporalNodeKind.the-variants.{Source, Wire, Inverter, Delay, Comparator, Actuator, Conductor}
 use Rattle.rules.specs.declared.kinds.KindRow.{KindRow}
@@ -36,27 +36,17 @@ isInverter Comparator = false
 isInverter Actuator = false
 isInverter Conductor = false
 
--- "comparator, piston"
-abbrev pub statefulOrMechanical : TemporalNodeKind → Bool
-statefulOrMechanical Source = false
-statefulOrMechanical Wire = false
-statefulOrMechanical Inverter = false
-statefulOrMechanical Delay = false
-statefulOrMechanical Comparator = true
-statefulOrMechanical Actuator = true
-statefulOrMechanical Conductor = false
-
 -- a different component in the same strongly connected component
 abbrev pub otherIn : (ℕ → ℕ → Bool) → ℕ → Component → Bool
 otherIn same v d = not (eqb (d .id) v) && same v (d .id)
 
 -- "Feedback lists, in component order, each component that is neither Wire nor Conductor and shares its strongly connected component with a different component."
 unfoldable pub inFeedback : List Component → (ℕ → ℕ → Bool) → Component → Bool
-inFeedback cs same c = not (passive (row c .node)) && any (otherIn same (c .id)) cs
+inFeedback cs same c = not (passive (rowOf c .node)) && any (otherIn same (c .id)) cs
 
 -- list 4
 unfoldable pub feedback : List Component → List Edge → List ℕ
-feedback cs es = map idOf (keep (inFeedback cs (sameComponent es)) cs)
+feedback cs es = map idOf (keep (inFeedback cs (stronglyConnected es)) cs)
 
 -- A reason, with what it carries; the components of the Feedback reason are list 4's
 pub data Reason : Type 0 where
@@ -65,7 +55,8 @@ pub data Reason : Type 0 where
   statefulOrMechanicalDevice : (component block : ℕ) → Reason
   lockedRepeater : (component : ℕ) → Reason
 
--- The fields of list 3. "Enum values become numbers from 0 in the Rust's order"; "A field that an entry's case lacks holds 0."
+-- The fields of list 3. "Enum values become numbers from 0 in the Rust's order, block kinds by the kind table"; "A field that an entry's case
+-- lacks holds 0."
 abbrev pub reasonKind : Reason → ℕ
 reasonKind (unequalReconvergentDelay v low high) = 0
 reasonKind feedbackLoop = 1
@@ -104,11 +95,12 @@ feedbackReason (x ∷ xs) = feedbackLoop ∷ []
 -- "for each component in order, StatefulOrMechanicalDevice (comparator, piston) or LockedRepeater (repeater, flag 1)"
 unfoldable pub ownReason : Component → List Reason
 ownReason c =
-    cond (statefulOrMechanical (row c .node)) (statefulOrMechanicalDevice (c .id) (c .kind) ∷ [])
-    (cond (eqb (c .kind) 10 && eqb (c .locked) 1) (lockedRepeater (c .id) ∷ []) [])
+    cond (eqb (c .kind) comparatorCode || eqb (c .kind) pistonCode) (statefulOrMechanicalDevice (c .id) (c .kind) ∷ [])
+    (cond (eqb (c .kind) repeaterCode && eqb (c .locked) 1) (lockedRepeater (c .id) ∷ []) [])
 
 -- "A component with two or more incoming edges collects one range for each incoming edge from a settled source. A reason stands where the
--- smallest minimum and largest maximum differ."
+-- smallest minimum and largest maximum differ." Here by path sums, as demand 3 says it; proofs/Ranges, extreme-step, shows that the smallest
+-- and largest path sum are the smallest minimum and largest maximum of those ranges
 unfoldable pub unequalAt : List Edge → (ℕ → ℕ) → (ℕ → ℕ) → ℕ → Bool
 unequalAt es low high v =
     let differ = not (eqb (smallestSum es low v) (largestSum es high v)) in
@@ -116,10 +108,6 @@ unequalAt es low high v =
 
 unfoldable pub unequalReason : List Edge → (ℕ → ℕ) → (ℕ → ℕ) → ℕ → Reason
 unequalReason es low high v = unequalReconvergentDelay v (smallestSum es low v) (largestSum es high v)
-
--- the ids of the components, "by rising id"
-unfoldable pub risingIds : List Component → List ℕ
-risingIds cs = rising (map idOf cs)
 
 unfoldable pub unequalReasonsBy : List Edge → (ℕ → ℕ) → (ℕ → ℕ) → List ℕ → List Reason
 unequalReasonsBy es low high vs = map (unequalReason es low high) (keep (unequalAt es low high) vs)
@@ -137,32 +125,30 @@ reasons cs es = temporalReasons cs es ++ unequalReasons cs es
 
 -- "Any of the first three gives TemporalRequired; unequal delays alone TimingSensitive; none SteadyStateSafe."
 unfoldable pub scope : List Component → List Edge → TemporalScope
-scope cs es = cond (some (temporalReasons cs es)) TemporalRequired (cond (some (unequalReasons cs es)) TimingSensitive SteadyStateSafe)
+scope cs es = cond (notEmpty (temporalReasons cs es)) TemporalRequired (cond (notEmpty (unequalReasons cs es)) TimingSensitive SteadyStateSafe)
 
--- "Patterns: without Feedback, DelayedPath if any device exists, else nothing; with it, ClockCandidate if the list has an Inverter, else LatchCandidate."
+-- "Patterns: without Feedback, DelayedPath if any device exists, else nothing; with it, ClockCandidate if the list has an Inverter, else
+-- LatchCandidate." The components of a candidate are list 4's
 unfoldable pub pattern : List Component → List Edge → BehaviorPattern
 pattern cs es =
-    cond (some (feedback cs es))
+    cond (notEmpty (feedback cs es))
     (cond (any (λ v. isInverter (rowAt cs v .node)) (feedback cs es)) ClockCandidate LatchCandidate)
-    (cond (any (λ c. isDevice (row c)) cs) DelayedPath Nothing)
+    (cond (any (λ c. isDevice (rowOf c)) cs) DelayedPath Nothing)
 
--- list 8, "in component order": "Labels use the kind table's delays."
-unfoldable pub labels : List Component → List Edge → List Label
-labels cs es = map (label es (delayAt cs) (delayAt cs)) (map idOf cs)
-
--- Reasons without computation; the laws in proofs/ show that the listed ones are these
+-- Reasons without computation; proofs/ReasonLaws shows that the listed ones are these
 
 -- "each component that is neither Wire nor Conductor and shares its strongly connected component with a different component"
 pub record OnFeedback (cs : List Component) (es : List Edge) (c : Component) : Type 0 where
-  pub active : T (passive (row c .node)) → ⊥
+  pub active : T (passive (rowOf c .node)) → ⊥
   pub other : Component
   pub listed : List·Memᴰ other cs
   pub different : other .id ≡ c .id → ⊥
   pub there : Walk es (c .id) (other .id)
   pub back : Walk es (other .id) (c .id)
 
--- "an unequal-delay reason names a component exactly when at least two connections end there and two path sums differ: the smallest and the
--- largest over all paths to it". `lows` and `highs` give a path's sum
+-- "an unequal-delay reason names a component exactly when at least two connections end there and two path sums (delays of all components but
+-- the last) differ: the smallest and the largest over all paths to it that start where no connection ends and whose components before the
+-- last neither lie on a cycle nor can be reached from one. It shows those two sums." `lows` and `highs` give a path's sum
 pub record UnequalDelay (cs : List Component) (es : List Edge) (lows highs : List ℕ → ℕ) (v low high : ℕ) : Type 0 where
   pub component : List·Memᴰ v (map idOf cs)
   pub incoming : 2 ≤ inCount es v

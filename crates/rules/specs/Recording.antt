@@ -5,7 +5,7 @@ use Prim.Native.Nat.{ℕ, suc, _+_, _*_}
 use lib.Dec.{eqb, leb, ltb}
 use lib.ListN.{length, getD}
 use Rattle.rules.specs.Lists.{sum, indices}
-use Rattle.rules.specs.Refusals.{Test, test, firstRefusal}
+use Rattle.rules.specs.Refusals.{Test, test, firstRefusal, afterFrom}
 use Rattle.rules.specs.Verdicts.{Finding, tallies}
 use Rattle.rules.specs.Traces.{TraceLimits, TraceLists, eventCount, traceTests, traceFindings, transientAnswer}
 use Rattle.rules.specs.declared.answers.Checked.{Checked}
@@ -14,9 +14,8 @@ use Rattle.rules.specs.declared.transient.TransientRecord.{TransientReco
 use Rattle.rules.specs.declared.transient.Recorded.{Recorded}
 
 -- "A record is false if its tallies don't sum to findings held, or findings exceed 4,096 times traces, both in whole numbers that don't wrap."
--- 4,096 is the most events, so the most findings, that one trace brings
 unfoldable pub recordFalse : TraceLimits → TransientRecord → Bool
-recordFalse limits r = not (eqb (sum (r .tallies)) (r .findings)) || ltb (limits .events * r .traces) (r .findings)
+recordFalse limits r = not (eqb (sum (r .tallies)) (r .findings)) || ltb (limits .findingsEach * r .traces) (r .findings)
 
 -- "Recording puts 15, then 13 first." "the list needs findings held plus events"
 unfoldable pub recordTests : TraceLimits → TransientRecord → TraceLists → (lengths : List ℕ) → List Test
@@ -35,11 +34,16 @@ unfoldable pub grown : TransientRecord → List Finding → TransientRecord
 grown r fs =
     record { traces = suc (r .traces); findings = r .findings + length fs; tallies = addTallies (r .tallies) (tallies fs) }
 
--- the record after the call: as it was, under a refusal. List 9 is `afterFrom checked (r .findings) old new`:
--- "Findings are appended to list 9 after those held, which stay"
+-- "Findings are appended to list 9 after those held, which stay": a field of list 9 after the call
+module _ {A : Type 0} where
+  abbrev pub findingsAfter : Checked → TransientRecord → List A → List A → List A
+  findingsAfter checked r old new = afterFrom checked (r .findings) old new
+
+-- the record after the call: as it was, under a refusal
 abbrev pub recordAfter : Checked → TransientRecord → TraceLists → TransientRecord
 recordAfter Accepted r t = grown r (traceFindings t)
 recordAfter (Refused number place) r t = r
 
+-- the answer counts the findings of this trace, the record those held
 unfoldable pub recorded : Checked → TransientRecord → TraceLists → Recorded
 recorded checked r t = record { answer = transientAnswer checked t; held = recordAfter checked r t }

@@ -1,6 +1,7 @@
--- The refusals of a scene, in their order. Assumes nothing: these are definitions.
+-- The tests of the refusals and their order, with those of a scene: 1 to 8. Refusals 9 to 12 are in Traces, 13 and 15 in Recording.
+-- Assumes nothing: these are definitions.
 use mathlib.Core.Bool.{Bool, true, false, not, cond, _&&_, _||_}
-use mathlib.Core.List.{List, [], _∷_, _++_, flatMap}
+use mathlib.Core.List.{List, [], _∷_, _++_, map, flatMap}
 use Prim.Native.Nat.{ℕ, _+_, _*_}
 use lib.Dec.{eqb, ltb}
 use lib.ListN.{length, getD, take}
@@ -98,7 +99,7 @@ connectionTests l m j = test (badTransfer (connectionAt m j)) 5 j ∷ test (endM
 unfoldable pub sizeTests : SceneLimits → ComponentLists → ConnectionLists → List Output → List Test
 sizeTests limits l m outputs =
     test (lengthsDiffer (componentLengths l)) 8 0 ∷ test (lengthsDiffer (connectionLengths m)) 8 1 ∷ test (ltb (limits .components) (length (l .ids))) 1 (length (l .ids))
-    ∷ test (ltb (limits .connections) (length (m .sources))) 2 (length (m .sources)) ∷ flatMap (λ o. outputTest o ∷ []) outputs
+    ∷ test (ltb (limits .connections) (length (m .sources))) 2 (length (m .sources)) ∷ map outputTest outputs
 
 -- "Order for a scene: 8, 1, 2, 7, components one by one (4 then 3), connections one by one (5 then 6)."
 unfoldable pub sceneTests : SceneLimits → ComponentLists → ConnectionLists → List Output → List Test
@@ -108,3 +109,12 @@ sceneTests limits l m outputs =
 
 unfoldable pub checkScene : SceneLimits → ComponentLists → ConnectionLists → List Output → Checked
 checkScene limits l m outputs = firstRefusal (sceneTests limits l m outputs)
+
+-- The number and place of what the checks find; an accepted call has 0 for both
+abbrev pub refusalNumber : Checked → ℕ
+refusalNumber Accepted = 0
+refusalNumber (Refused number place) = number
+
+abbrev pub refusalPlace : Checked → ℕ
+refusalPlace Accepted = 0
+refusalPlace (Refused number place) = place

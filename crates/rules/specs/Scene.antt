@@ -5,12 +5,13 @@ use Prim.Native.Nat.{ℕ, _≤_}
 use lib.Dec.{eqb}
 use lib.IntN.{ℤ, pos}
 use lib.ListN.{length, getD}
-use Rattle.rules.specs.Lists.{keep, count, indices}
-use Rattle.rules.specs.Kinds.{kindRow, conductor, wordDelay}
-use Rattle.rules.specs.Graph.{Edge, _⟶_, src, dst}
+use Rattle.rules.specs.Lists.{keep, count, indices, rising}
+use Rattle.rules.specs.Kinds.{kindRow, conductor, componentDelay}
+use Rattle.rules.specs.Graph.{Edge, _⟶_, sourceOf, sinkOf}
 use Rattle.rules.specs.declared.kinds.KindRow.{KindRow}
 
--- "A component has an id (64 bits), a kind code, a delay word (0 to 255, or 256 for absent), a locked flag and a position of three signed 32-bit numbers."
+-- "A component has an id (64 bits), a kind code, a delay word (0 to 255, or 256 for absent), a locked flag (0 or 1; 1 means
+-- `observed_properties` has `locked` equal to `true`) and a position of three signed 32-bit numbers."
 pub record Component : Type 0 where
   pub id : ℕ
   pub kind : ℕ
@@ -20,7 +21,8 @@ pub record Component : Type 0 where
   pub y : ℤ
   pub z : ℤ
 
--- "A connection has source id, sink id and a transfer code."
+-- "A connection has source id, sink id and a transfer code: 0 DustPropagation, 1 DirectSignal, 2 WeakPower, 3 StrongPower,
+-- 4 DirectionalDevice, 5 SideControl, 6 StructuralSupport."
 pub record Connection : Type 0 where
   pub source : ℕ
   pub sink : ℕ
@@ -74,11 +76,11 @@ sceneOf cs ns = record { components = componentsOf cs; connections = connections
 abbrev pub isEdge : Connection → Bool
 isEdge n = not (eqb (n .transfer) 6)
 
-abbrev pub ends : Connection → Edge
-ends n = n .source ⟶ n .sink
+abbrev pub edgeOf : Connection → Edge
+edgeOf n = n .source ⟶ n .sink
 
 unfoldable pub edgesOf : List Connection → List Edge
-edgesOf ns = map ends (keep isEdge ns)
+edgesOf ns = map edgeOf (keep isEdge ns)
 
 -- the edges of a scene, in list order
 abbrev pub edges : Scene → List Edge
@@ -90,24 +92,28 @@ idOf c = c .id
 abbrev pub hasId : ℕ → Component → Bool
 hasId v c = eqb (c .id) v
 
--- no id stands twice
+-- the ids of the components, "by rising id"
+unfoldable pub risingIds : List Component → List ℕ
+risingIds cs = rising (map idOf cs)
+
+-- no id stands twice (for the laws)
 abbrev pub DistinctIds : List Component → Type 0
 DistinctIds cs = (v : ℕ) → count (hasId v) cs ≤ 1
 
--- every end of every edge is the id of a component
+-- every end of every edge is the id of a component (for the laws)
 abbrev pub EndsListed : List Component → List Edge → Type 0
-EndsListed cs es = (e : Edge) → List·Memᴰ e es → List·Memᴰ (src e) (map idOf cs) × List·Memᴰ (dst e) (map idOf cs)
+EndsListed cs es = (e : Edge) → List·Memᴰ e es → List·Memᴰ (sourceOf e) (map idOf cs) × List·Memᴰ (sinkOf e) (map idOf cs)
 
 -- "Two components, or two connections, are the same if they are equal in every field."
 abbrev pub sameConnection : Connection → Connection → Bool
 sameConnection a b = eqb (a .source) (b .source) && (eqb (a .sink) (b .sink) && eqb (a .transfer) (b .transfer))
 
 -- a component's row of the kind table, and its delay: a repeater's own, absent 1
-unfoldable pub row : Component → KindRow
-row c = kindRow (c .kind)
+unfoldable pub rowOf : Component → KindRow
+rowOf c = kindRow (c .kind)
 
-unfoldable pub componentDelay : Component → ℕ
-componentDelay c = wordDelay (c .kind) (c .delay)
+unfoldable pub delayOf : Component → ℕ
+delayOf c = componentDelay (c .kind) (c .delay)
 
 -- what is said of the component with an id, or the given where there is none
 module _ {A : Type 0} where
@@ -115,7 +121,7 @@ module _ {A : Type 0} where
   byId f other cs v = getD (map f (keep (hasId v) cs)) 0 other
 
 unfoldable pub rowAt : List Component → ℕ → KindRow
-rowAt cs v = byId row conductor cs v
+rowAt cs v = byId rowOf conductor cs v
 
 unfoldable pub delayAt : List Component → ℕ → ℕ
-delayAt cs v = byId componentDelay 0 cs v
+delayAt cs v = byId delayOf 0 cs v

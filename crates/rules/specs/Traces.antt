@@ -1,17 +1,16 @@
 -- The trace call: its refusals in their order, and its answer. Assumes nothing: these are definitions.
-use mathlib.Core.Bool.{Bool, cond, _&&_, _||_}
-use mathlib.Core.List.{List, [], _∷_, _++_, flatMap}
+use mathlib.Core.Bool.{Bool, _&&_, _||_}
+use mathlib.Core.List.{List, [], _∷_, _++_, map, flatMap}
 use Prim.Native.Nat.{ℕ, _-_}
 use lib.Dec.{eqb, leb, ltb}
 use lib.ListN.{length, getD, replicate}
 use Rattle.rules.specs.Lists.{indices}
-use Rattle.rules.specs.Codes.{polarityCode, unitCode, unitOf, verdictCode}
+use Rattle.rules.specs.Codes.{unitOf}
 use Rattle.rules.specs.Refusals.{Test, test, firstRefusal, Output, output, outputTest, lengthsDiffer}
-use Rattle.rules.specs.Pulses.{Event, EventLists, eventAt, eventsOf, Pulse}
+use Rattle.rules.specs.Pulses.{Event, EventLists, eventAt, eventsOf}
 use Rattle.rules.specs.Verdicts.{Contract, ContractLists, contractAt, contractsOf, Finding, findings, tallies}
 use Rattle.rules.specs.declared.answers.Checked.{Checked}
 use Rattle.rules.specs.declared.answers.Checked.the-variants.{Accepted, Refused}
-use Rattle.rules.specs.declared.transient.Judgement.{Judgement}
 use Rattle.rules.specs.declared.transient.TransientAnswer.{TransientAnswer}
 use Rattle.rules.specs.declared.transient.TransientAnswer.the-variants as Answer
 use Rattle.rules.specs.declared.transient.TransientAssessment.{TransientAssessment}
@@ -21,10 +20,11 @@ pub record TraceLimits : Type 0 where
   pub events : ℕ
   pub contracts : ℕ
   pub traces : ℕ
+  pub findingsEach : ℕ
 
--- "events over 4,096", "contracts over 512", "record already holds 64 traces or more"
+-- "events over 4,096", "contracts over 512", "record already holds 64 traces or more", "findings exceed 4,096 times traces"
 abbrev pub traceLimits : TraceLimits
-traceLimits = record { events = 4096; contracts = 512; traces = 64 }
+traceLimits = record { events = 4096; contracts = 512; traces = 64; findingsEach = 4096 }
 
 -- what a trace call gets: a time unit, events and contracts
 pub record TraceLists : Type 0 where
@@ -64,13 +64,13 @@ unfoldable pub contractTests : ContractLists → ℕ → List Test
 contractTests l i = test (contractOutOfRange (contractAt l i)) 11 i ∷ test (notAboveBefore (l .components) i) 12 i ∷ []
 
 -- "For a trace: 8, 9, 10, 7, 11 for unit, then events, then contracts one by one (11 then 12)."
--- `room` is the length that list 9 needs, `lengths` those of its fields' number lists
-unfoldable pub traceTests : TraceLimits → TraceLists → (room : ℕ) → (lengths : List ℕ) → List Test
-traceTests limits t room lengths =
+-- `need` is the length that list 9 needs, `lengths` those of its fields' number lists
+unfoldable pub traceTests : TraceLimits → TraceLists → (need : ℕ) → (lengths : List ℕ) → List Test
+traceTests limits t need lengths =
     test (lengthsDiffer (eventLengths (t .events))) 8 2 ∷ test (lengthsDiffer (contractLengths (t .contracts))) 8 3
     ∷ test (ltb (limits .events) (eventCount t)) 9 (eventCount t) ∷ test (ltb (limits .contracts) (contractCount t)) 10 (contractCount t)
-    ∷ outputTest (output 9 room lengths) ∷ test (ltb 1 (t .unit)) 11 0
-    ∷ (flatMap (λ i. eventTest (t .events) i ∷ []) (indices (eventCount t)) ++ flatMap (contractTests (t .contracts)) (indices (contractCount t)))
+    ∷ outputTest (output 9 need lengths) ∷ test (ltb 1 (t .unit)) 11 0
+    ∷ (map (eventTest (t .events)) (indices (eventCount t)) ++ flatMap (contractTests (t .contracts)) (indices (contractCount t)))
 
 -- the trace call: list 9 "then needs one entry for each event"
 unfoldable pub checkTrace : TraceLimits → TraceLists → (lengths : List ℕ) → Checked
@@ -89,39 +89,7 @@ abbrev pub transientAssessment : Checked → TraceLists → TransientAssessment
 transientAssessment Accepted t = record { answer = transientAnswer Accepted t; tallies = tallies (traceFindings t) }
 transientAssessment (Refused number place) t = record { answer = Answer.Refused number place; tallies = replicate 5 0 }
 
--- The fields of list 9
-abbrev pub findingComponent : Finding → ℕ
-findingComponent f = f .pulse .component
-
-abbrev pub findingPolarity : Finding → ℕ
-findingPolarity f = polarityCode (f .pulse .polarity)
-
-abbrev pub findingUnit : Finding → ℕ
-findingUnit f = unitCode (f .pulse .unit)
-
-abbrev pub findingStartTick : Finding → ℕ
-findingStartTick f = f .pulse .startTick
-
-abbrev pub findingEndTick : Finding → ℕ
-findingEndTick f = f .pulse .endTick
-
-abbrev pub findingWidth : Finding → ℕ
-findingWidth f = f .pulse .width
-
-abbrev pub findingSteady : Finding → ℕ
-findingSteady f = cond (f .pulse .steady) 1 0
-
-abbrev pub findingBaseline : Finding → ℕ
-findingBaseline f = f .pulse .baselineEvent
-
-abbrev pub findingStart : Finding → ℕ
-findingStart f = f .pulse .startEvent
-
-abbrev pub findingEnd : Finding → ℕ
-findingEnd f = f .pulse .endEvent
-
-abbrev pub findingVerdict : Finding → ℕ
-findingVerdict f = verdictCode (f .judgement .verdict)
-
-abbrev pub findingRationale : Finding → ℕ
-findingRationale f = f .judgement .rationale
+-- the answer's numbers: refusal, place, findings written, contracts given
+abbrev pub transientNumbers : TransientAnswer → List ℕ
+transientNumbers (Answer.Refused number place) = number ∷ place ∷ 0 ∷ 0 ∷ []
+transientNumbers (Answer.Assessed findings contracts) = 0 ∷ 0 ∷ findings ∷ contracts ∷ []

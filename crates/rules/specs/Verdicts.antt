@@ -6,7 +6,7 @@ use lib.Dec.{eqb, leb}
 use lib.ListN.{length, getD}
 use Rattle.rules.specs.Lists.{keep, count, indices}
 use Rattle.rules.specs.Codes.{polarityCode, polarityOf, unitCode, unitOf, verdictCode}
-use Rattle.rules.specs.Pulses.{Event, Pulse, pulses}
+use Rattle.rules.specs.Pulses.{Event, isPowered, Pulse, pulses}
 use Rattle.rules.specs.declared.transient.PulsePolarity.{PulsePolarity}
 use Rattle.rules.specs.declared.transient.TraceTimeUnit.{TraceTimeUnit}
 use Rattle.rules.specs.declared.transient.TransientVerdict.{TransientVerdict}
@@ -57,7 +57,7 @@ contractsOf l = map (contractAt l) (indices (length (l .components)))
 unfoldable pub intentOf : Contract → SignalIntent
 intentOf c =
     cond (eqb (c .intent) 0) Intent.SteadyStateOnly
-    (cond (eqb (c .intent) 1) (Intent.Stable (eqb (c .powered) 1))
+    (cond (eqb (c .intent) 1) (Intent.Stable (isPowered (c .powered)))
     (cond (eqb (c .intent) 2) (Intent.IntentionalPulse (polarityOf (c .polarity)) (unitOf (c .unit)) (c .smallest) (c .largest))
     (Intent.MaximumPulseWidth (polarityOf (c .polarity)) (unitOf (c .unit)) (c .largest))))
 
@@ -104,6 +104,43 @@ findingOf cs p = record { pulse = p; judgement = classify p (designIntent cs (p 
 -- "The trace call writes its findings, in pulse order, to list 9"
 unfoldable pub findings : TraceTimeUnit → List Event → List Contract → List Finding
 findings unit es cs = map (findingOf cs) (pulses unit es)
+
+-- The fields of list 9
+abbrev pub findingComponent : Finding → ℕ
+findingComponent f = f .pulse .component
+
+abbrev pub findingPolarity : Finding → ℕ
+findingPolarity f = polarityCode (f .pulse .polarity)
+
+abbrev pub findingUnit : Finding → ℕ
+findingUnit f = unitCode (f .pulse .unit)
+
+abbrev pub findingStartTick : Finding → ℕ
+findingStartTick f = f .pulse .startTick
+
+abbrev pub findingEndTick : Finding → ℕ
+findingEndTick f = f .pulse .endTick
+
+abbrev pub findingWidth : Finding → ℕ
+findingWidth f = f .pulse .width
+
+abbrev pub findingSteady : Finding → ℕ
+findingSteady f = cond (f .pulse .steady) 1 0
+
+abbrev pub findingBaseline : Finding → ℕ
+findingBaseline f = f .pulse .baselineEvent
+
+abbrev pub findingStart : Finding → ℕ
+findingStart f = f .pulse .startEvent
+
+abbrev pub findingEnd : Finding → ℕ
+findingEnd f = f .pulse .endEvent
+
+abbrev pub findingVerdict : Finding → ℕ
+findingVerdict f = verdictCode (f .judgement .verdict)
+
+abbrev pub findingRationale : Finding → ℕ
+findingRationale f = f .judgement .rationale
 
 -- "five tallies, one for each verdict, stand in for the map"
 unfoldable pub tally : List Finding → ℕ → ℕ

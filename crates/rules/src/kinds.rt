@@ -1,6 +1,6 @@
 // The kind table: what each block kind is in the timing analysis.
 ghost use mathlib.Core.Path.{_≡_};
-ghost use Rattle.rules.specs.Kinds.{kindRow, wordDelay, edgeTiming};
+ghost use Rattle.rules.specs.Kinds.{kindRow, componentDelay, edgeTiming};
 ghost use Rattle.rules.specs.Codes.{behaviorCode, semanticsCode};
 use crate::delay::DelayRange;
 
@@ -126,7 +126,7 @@ pub fn kind_row(code: u8) -> KindRow
 
 // The delay of a component by its kind code and its delay word.
 pub fn component_delay(code: u8, word: u16) -> u32
-    ensures { λ r. ⌜ r ≡ wordDelay code word ⌝ }
+    ensures { λ r. ⌜ r ≡ componentDelay code word ⌝ }
 {
     let row = kind_row(code);
     let delay = row.delay;

@@ -28,14 +28,14 @@ pub enum SignalIntent {
     },
     IntentionalPulse {
         polarity: PulsePolarity,
-        unit: TraceTimeUnit,
-        minimum_width: u64,
-        maximum_width: u64,
+        time_unit: TraceTimeUnit,
+        minimum_width_ticks: u64,
+        maximum_width_ticks: u64,
     },
     MaximumPulseWidth {
         polarity: PulsePolarity,
-        unit: TraceTimeUnit,
-        maximum_width: u64,
+        time_unit: TraceTimeUnit,
+        maximum_width_ticks: u64,
     },
 }
 
