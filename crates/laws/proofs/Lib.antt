@@ -1,9 +1,12 @@
-pub mod Order
+-- Demand 3: what the order of the connections does not change, and what an unequal-delay reason says
+pub mod Reordering
+pub mod UnequalReasons
+-- that every list has room, and that sums do not meet their cap
+pub mod Room
 pub mod PlainSums
+-- what these rest on
+pub mod Order
 pub mod Chains
 pub mod Projection
 pub mod PathParts
 pub mod StoredEdges
-pub mod Reordering
-pub mod UnequalReasons
-pub mod Room

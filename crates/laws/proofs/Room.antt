@@ -10,18 +10,20 @@ use lib.ListN.{length, length-map, length-append}
 use Rattle.rules.specs.Lists.{keep, count}
 use Rattle.rules.specs.Delay.{cap}
 use Rattle.rules.specs.Kinds.{isDevice, repeaterCode, comparatorCode, pistonCode}
-use Rattle.rules.specs.Scene.{EndsListed, Component, Connection, DistinctIds, idOf, isEdge, edgeOf, edgesOf, rowOf, delayAt, risingIds}
+use Rattle.rules.specs.Scene.{EndsListed, Component, Connection, ComponentLists, ConnectionLists, componentsOf, connectionsOf, DistinctIds, idOf, isEdge, edgeOf, edgesOf, rowOf, delayAt, risingIds}
 use Rattle.rules.specs.Graph.{Edge, sourceOf, sinkOf, stronglyConnected}
 use Rattle.rules.specs.Paths.{delaySum, total}
 use Rattle.rules.specs.Reasons.{Reason, statefulOrMechanicalDevice, lockedRepeater, inFeedback, feedback, feedbackReason, ownReason, unequalAt, unequalReason, unequalReasonsBy, unequalReasons, temporalReasons, reasons}
 use Rattle.rules.specs.Projection.{compressed, marks, firstEdges, chainFrom, beforeLast, projected, pathIds}
+use Rattle.rules.specs.Refusals.{SceneLimits, Output, checkScene}
 use Rattle.rules.specs.Describe.{timedEdge, timedEdges, temporalDevice, deviceComponents, devices, connectionEvidence, deviceEvidence, evidence}
-use Rattle.rules.specs.declared.kinds.KindRow.{KindRow}
+use Rattle.rules.specs.declared.answers.Checked.the-variants.{Accepted}
 use Rattle.rules.specs.Labels.{label, labels}
 use Rattle.rules.proofs.Distinct.{pigeon}
 use Rattle.rules.proofs.Permutations.{keep-length, perm-length}
 use Rattle.rules.proofs.Counts.{count-under, count-every}
 use Rattle.rules.proofs.Sorting.{rising-ids-perm}
+use Rattle.rules.proofs.Acceptance.{AcceptedScene, accepted→, accepted-ids, components-length, connections-length, edge-ends}
 use Rattle.laws.proofs.PlainSums.{capped-total, total-bound, delay-bound}
 use Rattle.laws.proofs.Chains.{chain-before, chain-once, between, chain-into}
 use Rattle.laws.proofs.Projection.{first-edges-out, first-kept, chain-ids, projected-count, path-ids-count}
@@ -137,3 +139,29 @@ module _ (cs : List Component) (es : List Edge) where
 
       pub projected-plain : length cs * 255 ≤ cap → delaySum (delayAt cs) (beforeLast (chainFrom cs es e)) ≡ total (delayAt cs) (beforeLast (chainFrom cs es e))
       projected-plain h = omega (arith, projected-total, capped-total (delayAt cs) (beforeLast (chainFrom cs es e)))
+
+-- So for an accepted scene of N components and M connections
+module _ (limits : SceneLimits) (l : ComponentLists) (m : ConnectionLists) (outputs : List Output) (accepted : checkScene limits l m outputs ≡ Accepted) where
+  abbrev components : List Component
+  components = componentsOf l
+
+  abbrev joins : List Edge
+  joins = edgesOf (connectionsOf m)
+
+  facts : AcceptedScene limits l m outputs
+  facts = accepted→ limits l m outputs accepted
+
+  pub accepted-projected : length (projected components joins) ≤ length (m .sources)
+  accepted-projected = projected-fit components joins (edge-ends facts) (accepted-ids facts) (length (m .sources)) (omega (arith, edges-fit components (connectionsOf m), connections-length m))
+
+  pub accepted-path-ids : length (pathIds (projected components joins)) ≤ 2 * length (m .sources) + length (l .ids)
+  accepted-path-ids = omega (
+    arith,
+    path-ids-fit components joins (edge-ends facts) (accepted-ids facts) (length (m .sources)) (omega (arith, edges-fit components (connectionsOf m), connections-length m)),
+    components-length l,
+  )
+
+  pub accepted-projected-plain : limits .components * 255 ≤ cap → (e : Edge) → List·Memᴰ e (firstEdges components joins)
+      → delaySum (delayAt components) (beforeLast (chainFrom components joins e)) ≡ total (delayAt components) (beforeLast (chainFrom components joins e))
+  accepted-projected-plain h e n =
+      projected-plain components joins (edge-ends facts) (accepted-ids facts) e n (omega (arith, facts .components-few, components-length l))

@@ -1,1 +1,1 @@
-// Theorems about the rules are in proofs/; there is no code here.
+// Theorems about every accepted scene are in proofs/; there is no code here.

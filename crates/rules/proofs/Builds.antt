@@ -4,22 +4,28 @@ use mathlib.Core.List.{List, [], _∷_, _++_, map, flatMap}
 use mathlib.Core.Path.{_≡_, refl}
 use Prim.Native.Nat.{ℕ}
 use lib.IntN.{ℤ, pos}
-use lib.ListN.{length}
+use lib.ListN.{length, replicate}
 use Rattle.rules.specs.Lists.{any, keep, count, from, indices, insert, rising, once, sum}
 use Rattle.rules.specs.Delay.{saturatingAdd}
 use Rattle.rules.specs.Kinds.{kindRow, delayBy, componentDelay, isDevice}
 use Rattle.rules.specs.Graph.{inCount, outCount, reach, settled, stronglyConnected}
-use Rattle.rules.specs.Scene.{Component, Connection, Scene, edgesOf, edges, rowOf, delayOf, byId, rowAt, delayAt, risingIds}
+use Rattle.rules.specs.Scene.{Component, Connection, ComponentLists, ConnectionLists, componentAt, connectionAt, edgesOf, rowOf, delayOf, byId, rowAt, delayAt, risingIds}
 use Rattle.rules.specs.Paths.{noIncoming, settledSources, pathsWithin, pathsTo, delaySum, extreme, extremeSum}
 use Rattle.rules.specs.Reasons.{inFeedback, feedback, Reason, unequalReconvergentDelay, feedbackLoop, statefulOrMechanicalDevice, lockedRepeater, feedbackReason, ownReason, unequalAt, unequalReason, unequalReasonsBy, unequalReasons, temporalReasons, reasons, scope, pattern}
 use Rattle.rules.specs.Projection.{compressed, marks, retained, firstEdges, next, chain, chainFrom, beforeLast, lastOf, flips, invertsAt, ProjectedEdge, projectedBy, projectedAlong, projected}
-use Rattle.rules.specs.Pulses.{Event, isPulse, pulseOf, pulsesIn, eventComponents, pulses}
-use Rattle.rules.specs.Verdicts.{Contract, intentOf, designIntent, classify, Finding, findingOf, findings, tally, tallies, findingPolarity, findingWidth, findingVerdict, findingRationale}
+use Rattle.rules.specs.Pulses.{Event, eventAt, isPulse, pulseOf, pulsesIn, eventComponents, pulses}
+use Rattle.rules.specs.Verdicts.{Contract, contractAt, intentOf, designIntent, classify, Finding, findingOf, findings, tally, tallies, findingPolarity, findingWidth, findingVerdict, findingRationale}
+use Rattle.rules.specs.Refusals.{output, firstRefusal, componentLengths, connectionLengths, outOfRange, usedEarlier, componentTests, endMissing, connectionTests, sizeTests, sceneTests, checkScene}
+use Rattle.rules.specs.Traces.{traceLimits, TraceLists, eventCount, contractCount, eventLengths, contractLengths, contractOutOfRange, notAboveBefore, contractTests, traceTests}
+use Rattle.rules.specs.Recording.{recordFalse, recordTests, checkRecording}
+use Rattle.rules.specs.declared.answers.Checked.{Checked}
+use Rattle.rules.specs.declared.answers.Checked.the-variants.{Accepted, Refused}
 use Rattle.rules.specs.declared.answers.TemporalScope.{TemporalScope}
 use Rattle.rules.specs.declared.answers.TemporalScope.the-variants.{SteadyStateSafe, TimingSensitive, TemporalRequired}
 use Rattle.rules.specs.declared.answers.BehaviorPattern.{BehaviorPattern}
 use Rattle.rules.specs.declared.answers.BehaviorPattern.the-variants.{DelayedPath, ClockCandidate, LatchCandidate, Nothing}
 use Rattle.rules.specs.declared.transient.TraceTimeUnit.the-variants.{RedstoneTick}
+use Rattle.rules.specs.declared.transient.TransientRecord.{TransientRecord}
 use Rattle.rules.specs.Labels.{Label, unsettled, between, label, labels}
 
 -- What is asked of the rules, and what they answer
@@ -27,6 +33,8 @@ use Rattle.rules.specs.Labels.{Label, unsettled, between, label, labels}
 data Question : Type 0 where
   build : List Component → List Connection → Question
   trace : List Event → List Contract → Question
+  scene : ComponentLists → ConnectionLists → Question
+  recording : TransientRecord → TraceLists → Question
 
 record Report : Type 0 where
   scope : TemporalScope
@@ -47,6 +55,7 @@ record Judged : Type 0 where
 data Answer : Type 0 where
   reported : Report → Answer
   judged : List Judged → Answer
+  checked : Checked → Answer
 
 report : List Component → List Connection → Report
 report cs ns =
@@ -67,6 +76,8 @@ judgedOf f = record { polarity = findingPolarity f; width = findingWidth f; verd
 answer : Question → Answer
 answer (build cs ns) = reported (report cs ns)
 answer (trace es cs) = judged (map judgedOf (findings RedstoneTick es cs))
+answer (scene l m) = checked (checkScene (record { components = 3; connections = 2 }) l m (output 5 (length (l .ids)) (3 ∷ []) ∷ []))
+answer (recording r t) = checked (checkRecording traceLimits r t (9 ∷ []))
 
 record Row : Type 0 where
   asked : Question
@@ -114,6 +125,46 @@ stable level = record { component = 7; intent = 1; powered = level; polarity = 9
 
 abbrev high2 : ℕ → ℕ → Answer
 high2 v r = judged (record { polarity = 0; width = 2; verdict = v; rationale = r } ∷ [])
+
+-- components without delays or locks, in one place
+abbrev plain : List ℕ → List ℕ → ComponentLists
+plain ids kinds =
+    record {
+      ids = ids;
+      kinds = kinds;
+      delays = replicate (length ids) 256;
+      locked = replicate (length ids) 0;
+      xs = replicate (length ids) (pos 0);
+      ys = replicate (length ids) (pos 0);
+      zs = replicate (length ids) (pos 0);
+    }
+
+abbrev joined : List ℕ → List ℕ → List ℕ → ConnectionLists
+joined sources sinks transfers = record { sources = sources; sinks = sinks; transfers = transfers }
+
+abbrev unjoined : ConnectionLists
+unjoined = joined [] [] []
+
+abbrev held : ℕ → ℕ → List ℕ → TransientRecord
+held traces findings tallies = record { traces = traces; findings = findings; tallies = tallies }
+
+-- contracts for components with an intent each; the fields that they do not use are out of range
+abbrev contracted : ℕ → List ℕ → List ℕ → TraceLists
+contracted unit components intents =
+    record {
+      unit = unit;
+      events = record { ticks = 1 ∷ []; components = 7 ∷ []; powered = 1 ∷ [] };
+      contracts =
+          record {
+            components = components;
+            intents = intents;
+            powered = replicate (length components) 9;
+            polarities = replicate (length components) 9;
+            units = replicate (length components) 9;
+            smallest = replicate (length components) 9;
+            largest = replicate (length components) 9;
+          };
+    }
 
 -- The rows
 
@@ -233,6 +284,25 @@ rows =
     ∷ record { asked = trace (pulseAt 10 12 14) (intentional 3 2); expected = high2 3 7 }
     -- a wrong turn: Stable does not pass a pulse of the wanted level
     ∷ record { asked = trace (pulseAt 10 12 14) (stable 1); expected = high2 3 4 }
+    -- at one component 4 is tested before 3; a 3 at an earlier component comes before a 4 at a later one
+    ∷ record { asked = scene (plain (5 ∷ 5 ∷ []) (3 ∷ 13 ∷ [])) unjoined; expected = checked (Refused 4 1) }
+    ∷ record { asked = scene (plain (5 ∷ 5 ∷ 6 ∷ []) (3 ∷ 3 ∷ 13 ∷ [])) unjoined; expected = checked (Refused 3 1) }
+    -- at one connection 5 is tested before 6; a support may name absent ids
+    ∷ record { asked = scene (plain (5 ∷ []) (3 ∷ [])) (joined (5 ∷ 8 ∷ []) (5 ∷ 8 ∷ []) (0 ∷ 7 ∷ [])); expected = checked (Refused 5 1) }
+    ∷ record { asked = scene (plain (5 ∷ []) (3 ∷ [])) (joined (8 ∷ 5 ∷ []) (9 ∷ 8 ∷ []) (6 ∷ 0 ∷ [])); expected = checked (Refused 6 1) }
+    -- 8, then 1, then 7
+    ∷ record { asked = scene (plain (1 ∷ 2 ∷ 3 ∷ 4 ∷ []) (3 ∷ [])) unjoined; expected = checked (Refused 8 0) }
+    ∷ record { asked = scene (plain (1 ∷ 2 ∷ 3 ∷ 4 ∷ []) (3 ∷ 3 ∷ 3 ∷ 3 ∷ [])) unjoined; expected = checked (Refused 1 4) }
+    ∷ record { asked = scene (plain (1 ∷ 2 ∷ 3 ∷ []) (3 ∷ 3 ∷ 3 ∷ [])) (joined (1 ∷ []) (1 ∷ []) (0 ∷ [])); expected = checked Accepted }
+    -- a false record is 15, also with 64 traces; then 13; then the trace's own: 7, 11 for the unit, contracts one by one
+    ∷ record { asked = recording (held 64 1 (0 ∷ 0 ∷ 0 ∷ 0 ∷ 0 ∷ [])) (contracted 2 [] []); expected = checked (Refused 15 0) }
+    ∷ record { asked = recording (held 1 4097 (4097 ∷ 0 ∷ 0 ∷ 0 ∷ 0 ∷ [])) (contracted 0 [] []); expected = checked (Refused 15 0) }
+    ∷ record { asked = recording (held 64 1 (0 ∷ 1 ∷ 0 ∷ 0 ∷ 0 ∷ [])) (contracted 2 [] []); expected = checked (Refused 13 0) }
+    ∷ record { asked = recording (held 1 9 (9 ∷ 0 ∷ 0 ∷ 0 ∷ 0 ∷ [])) (contracted 2 [] []); expected = checked (Refused 7 9) }
+    ∷ record { asked = recording (held 0 0 (0 ∷ 0 ∷ 0 ∷ 0 ∷ 0 ∷ [])) (contracted 2 (4 ∷ []) (4 ∷ [])); expected = checked (Refused 11 0) }
+    ∷ record { asked = recording (held 1 8 (8 ∷ 0 ∷ 0 ∷ 0 ∷ 0 ∷ [])) (contracted 1 (4 ∷ 4 ∷ 5 ∷ []) (0 ∷ 0 ∷ 2 ∷ [])); expected = checked (Refused 12 1) }
+    ∷ record { asked = recording (held 1 8 (8 ∷ 0 ∷ 0 ∷ 0 ∷ 0 ∷ [])) (contracted 1 (4 ∷ 5 ∷ []) (0 ∷ 1 ∷ [])); expected = checked (Refused 11 1) }
+    ∷ record { asked = recording (held 1 8 (8 ∷ 0 ∷ 0 ∷ 0 ∷ 0 ∷ [])) (contracted 1 (4 ∷ 5 ∷ []) (0 ∷ 0 ∷ [])); expected = checked Accepted }
     ∷ []
 
 builds-hold : map (λ r. answer (r .asked)) rows ≡ map (λ r. r .expected) rows
@@ -241,4 +311,6 @@ unfolding answer report judgedOf any keep count from indices insert rising once 
     inFeedback feedback feedbackReason ownReason unequalAt unequalReason risingIds unequalReasonsBy unequalReasons temporalReasons reasons scope pattern labels
     compressed marks retained firstEdges next chain chainFrom beforeLast lastOf flips invertsAt projectedBy projectedAlong projected
     isPulse pulseOf pulsesIn eventComponents pulses intentOf designIntent classify findingOf findings flatMap
+    firstRefusal componentAt connectionAt componentLengths connectionLengths outOfRange usedEarlier componentTests endMissing connectionTests sizeTests sceneTests checkScene
+    eventAt contractAt eventCount contractCount eventLengths contractLengths contractOutOfRange notAboveBefore contractTests traceTests sum recordFalse recordTests checkRecording
 builds-hold = refl

@@ -5,7 +5,8 @@ use Prim.Native.Nat.{ℕ, zero, suc, _<_, _≤_}
 use native.Mathlib.Omega.{arith}
 use borrow.Author.Tests.{lt-ltb, le-ltb}
 use lib.ListN.{length, getD, List·getD-eq-default}
-use Rattle.rules.specs.Kinds.{kindTable, kindRow, conductor, delayBy, componentDelay}
+use Rattle.rules.specs.Kinds.{kindTable, kindRow, conductor, delayBy, componentDelay, edgeTiming}
+use Rattle.rules.specs.Scene.{Component, rowOf, delayOf}
 use Rattle.rules.specs.declared.kinds.KindRow.{KindRow}
 use Rattle.rules.specs.declared.kinds.KindDelay.the-variants.{Fixed, Own}
 
@@ -36,3 +37,8 @@ module _ (code word ticks : ℕ) where
   pub delay-absent : kindRow code .delay ≡ Own ticks → 256 ≤ word → ticks ≡ componentDelay code word
   unfolding componentDelay delayBy
   delay-absent e h = sym (ap (λ k. delayBy k word) e ∙ rw (le-ltb word 256 h))
+
+-- an edge's timing by its source's codes is by the source's row and delay
+pub edge-timing-of : (c : Component) → edgeTiming (c .kind) (c .delay) ≡ record { delay = record { «minimum_redstone_ticks» = delayOf c; «maximum_redstone_ticks» = delayOf c }; behavior = rowOf c .behavior }
+unfolding delayOf rowOf
+edge-timing-of c = refl

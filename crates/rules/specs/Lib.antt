@@ -1,16 +1,20 @@
+-- The meanings, in reading order. Words, delays, kinds and numbers:
 pub mod Lists
 pub mod Delay
 pub mod Kinds
 pub mod Codes
+-- the scene, its edges and paths, and what is said of them:
 pub mod Graph
 pub mod Scene
 pub mod Paths
 pub mod Labels
 pub mod Reasons
 pub mod Projection
+-- the refusals of a scene, and the two scene calls:
 pub mod Refusals
 pub mod Describe
 pub mod Assess
+-- recorded pulses, the trace call, and recording:
 pub mod Pulses
 pub mod Verdicts
 pub mod Traces

@@ -1,3 +1,4 @@
+use native.Mathlib.Omega.{arith}
 use Rattle.rules.proofs.Table.{delay-fixed, delay-own, delay-absent}
 use borrow.Author.Needs.{needs}
 use Rattle.rules.proofs.kinds.component_delay.Statement.{statement}
@@ -24,11 +25,11 @@ returns c = delay-fixed _ _ _ (cc)
 
 -- src/kinds.rt:116:1
 returns-2 : tie.Need-returns-2
-returns-2 c = delay-own _ _ (c .before .before .delay2 .given .0 .0) (cc) (c .if1 .taken)
+returns-2 c = delay-own _ _ (c .before .before .delay2 .given .0 .0) (cc) (omega arith)
 
 -- src/kinds.rt:116:1
 returns-3 : tie.Need-returns-3
-returns-3 c = delay-absent _ _ _ (cc) (c .if1 .left)
+returns-3 c = delay-absent _ _ _ (cc) (omega arith)
 
 pub component-delay-spec : {M : Type 1} → statement M
 component-delay-spec =
