@@ -1,7 +1,7 @@
 -- What the order of the edges does not change: reach, settled, sums, labels, reasons, scope and pattern. Assumes nothing.
 use mathlib.Core.List.{List, map, List·Permᴰ, Memᴰ·cast, Memᴰ·map, Memᴰ·of-map, Permᴰ·symm}
 use mathlib.Core.Path.{_≡_, sym, fun-ext}
-use Prim.Native.Nat.{ℕ, min, max}
+use Prim.Native.Nat.{ℕ}
 use Rattle.rules.specs.Graph.{Edge, startsAt, endsAt, reach, settled, stronglyConnected, inCount, outCount, Settled}
 use Rattle.rules.specs.Paths.{pathsTo, delaySum, extremeSum, PathTo, only, then}
 use Rattle.rules.specs.Scene.{Component, delayAt, risingIds}

@@ -1,12 +1,11 @@
 -- List 7 read back: the stored start and length of a projected edge give its path. Assumes nothing.
 use mathlib.Core.Bool.{Bool, _&&_}
 use mathlib.Core.List.{List, [], _∷_, _++_, map, flatMap, append-assoc}
-use mathlib.Core.Path.{_≡_, refl, sym, ap, ap₂, subst, _∙_}
+use mathlib.Core.Path.{_≡_, refl, sym, ap, _∙_}
 use Prim.Native.Nat.{ℕ, zero, suc, _+_, _≤_, _<_}
-use native.Mathlib.Nat.{zero-add}
 use native.Mathlib.Omega.{arith}
 use lib.Dec.{leb, ltb, leb→le, ltb→lt, le→leb, lt→ltb}
-use lib.ListN.{length, getD, take, drop, length-append, length-map, List·getD-append}
+use lib.ListN.{length, getD, take, drop, length-append, length-map}
 use lib.Seq.{take-at, drop-at}
 use Rattle.rules.specs.Lists.{written}
 use Rattle.rules.specs.Projection.{ProjectedEdge, startsFrom, pathLength, pathIds, projectedPath}

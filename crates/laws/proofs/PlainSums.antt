@@ -1,9 +1,9 @@
 -- Within the limits no sum meets the cap: path sums are plain sums. Assumes nothing.
 use mathlib.Core.Bool.{Bool, true, false, not, cond}
 use mathlib.Core.List.{List, [], _∷_, map, List·Memᴰ, List·Memᴰ·head, List·Memᴰ·tail, List·Memᴰ·cases-cons, Memᴰ·of-map, Memᴰ·cast}
-use mathlib.Core.Path.{_≡_, refl, sym, subst}
+use mathlib.Core.Path.{_≡_, refl, subst}
 use mathlib.Core.Logic.{_⊎_, inl, inr, ⊎-elim}
-use Prim.Native.Nat.{ℕ, zero, suc, _+_, _-_, _*_, _≤_, _<_, min}
+use Prim.Native.Nat.{ℕ, zero, suc, _-_, _*_, _≤_, _<_, min}
 use native.Mathlib.Nat.{suc-mul}
 use native.Mathlib.Omega.{arith}
 use lib.Dec.{T, leb, ltb, leb→le, ltb→lt}
@@ -12,7 +12,7 @@ use Rattle.rules.specs.Lists.{any, keep}
 use Rattle.rules.specs.Delay.{cap, saturatingAdd}
 use Rattle.rules.specs.Kinds.{kindTable, kindRow, conductor, delayBy, componentDelay}
 use Rattle.rules.specs.Scene.{EndsListed, Component, idOf, hasId, byId, delayOf, delayAt}
-use Rattle.rules.specs.Graph.{Edge, _⟶_, sourceOf, sinkOf}
+use Rattle.rules.specs.Graph.{Edge, _⟶_}
 use Rattle.rules.specs.Paths.{delaySum, total, PathTo, only, then}
 use Rattle.rules.specs.declared.kinds.KindDelay.{KindDelay}
 use Rattle.rules.specs.declared.kinds.KindDelay.the-variants.{Fixed, Own}

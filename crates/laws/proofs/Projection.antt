@@ -1,18 +1,18 @@
 -- All projected edges: the order of the edges does not change them, they are no more than the edges, and their paths have room in list 7. Assumes nothing.
 use mathlib.Core.Bool.{Bool, true, false, not, cond, _&&_}
 use mathlib.Core.List.{List, [], _∷_, _++_, map, flatMap, List·Memᴰ, List·Memᴰ·head, Memᴰ·append-left, Memᴰ·append-right, Memᴰ·cast, Memᴰ·of-map, List·Permᴰ}
-use mathlib.Core.Path.{_≡_, refl, sym, ap, ap₂, _∙_, fun-ext}
+use mathlib.Core.Path.{_≡_, refl, sym, ap, _∙_, fun-ext}
 use Prim.Native.Nat.{ℕ, zero, suc, _+_, _*_, _≤_, zero-le}
 use native.Mathlib.Omega.{arith}
-use lib.Dec.{T, T-not, not-T, eqb, eqb→eq, eqb-refl}
+use lib.Dec.{T, T-not, not-T, eqb→eq, eqb-refl}
 use lib.ListN.{length, length-append, length-map}
 use Rattle.rules.specs.Lists.{keep, count, Distinct}
 use Rattle.rules.specs.Graph.{Edge, sourceOf, sinkOf, startsAt, endsAt, inCount, outCount}
-use Rattle.rules.specs.Scene.{Component, idOf, DistinctIds, rowAt, delayAt, risingIds}
-use Rattle.rules.specs.Projection.{compressibleKind, compressed, marks, retained, firstEdges, next, chain, chainFrom, lastOf, invertsAt, projectedBy, projectedAlong, projected, pathIds}
+use Rattle.rules.specs.Scene.{Component, idOf, DistinctIds, delayAt, risingIds}
+use Rattle.rules.specs.Projection.{compressed, marks, retained, firstEdges, next, chain, chainFrom, lastOf, invertsAt, projectedBy, projectedAlong, projected, pathIds}
 use Rattle.rules.proofs.Lists.{and-both, keep-in, keep-out, flat-out}
 use Rattle.rules.proofs.Distinct.{pigeon}
-use Rattle.rules.proofs.Permutations.{perm-mem, perm-count, perm-length, perm-keep, keep-length, one-same, perm-map, perm-flat, flat-order}
+use Rattle.rules.proofs.Permutations.{perm-mem, perm-length, perm-keep, keep-length, one-same, perm-map, perm-flat, flat-order}
 use Rattle.rules.proofs.Counts.{count-append, count-every, count-keep, count-under, count-split, Once, distinct-keep, distinct-flat}
 use Rattle.rules.proofs.Sorting.{rising-ids-perm, rising-ids-distinct}
 use Rattle.laws.proofs.Order.{in-order, out-order}

@@ -1,20 +1,18 @@
 -- Demand 3, first half: what the order of the connections does not change. Assumes nothing.
 use mathlib.Core.Bool.{Bool}
 use mathlib.Core.List.{List, map, List·Permᴰ, Permᴰ·append-right}
-use mathlib.Core.Path.{_≡_, refl, sym, ap, subst}
+use mathlib.Core.Path.{_≡_, refl}
 use Prim.Native.Nat.{ℕ}
 use lib.Dec.{T, eqb, eqb→eq, eqb-refl}
-use lib.ListN.{length}
 use Rattle.rules.specs.Lists.{count}
-use Rattle.rules.specs.Scene.{Component, Connection, Scene, ComponentLists, ConnectionLists, connectionsOf, sceneOf, edges, isEdge, sameConnection, delayAt}
+use Rattle.rules.specs.Scene.{Component, Connection, Scene, ComponentLists, ConnectionLists, sceneOf, edges, isEdge, sameConnection, delayAt}
 use Rattle.rules.specs.Graph.{Edge}
 use Rattle.rules.specs.Reasons.{feedback, reasons}
-use Rattle.rules.specs.Projection.{ProjectedEdge, marks, compressed, projected}
+use Rattle.rules.specs.Projection.{ProjectedEdge, marks, projected}
 use Rattle.rules.specs.Refusals.{SceneLimits, Output, checkScene}
 use Rattle.rules.specs.Describe.{TimedEdge, timedEdge, timedEdges, deviceComponents, devices, Evidence, evidence, connectionEvidence, deviceEvidence, description}
-use Rattle.rules.specs.Assess.{assessment, sceneAnswer}
-use Rattle.rules.specs.declared.answers.Checked.{Checked}
-use Rattle.rules.specs.declared.answers.Checked.the-variants.{Accepted, Refused}
+use Rattle.rules.specs.Assess.{assessment}
+use Rattle.rules.specs.declared.answers.Checked.the-variants.{Accepted}
 use Rattle.rules.specs.Labels.{labels}
 use Rattle.rules.proofs.Lists.{tests, and-left, and-right}
 use Rattle.rules.proofs.Permutations.{perm-count, perm-length, perm-map, perm-keep}

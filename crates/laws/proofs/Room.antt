@@ -1,20 +1,20 @@
 -- Every list of an accepted scene fits the length that it needs, and projected delays are plain sums. Assumes nothing.
 use mathlib.Core.Bool.{Bool, true, false, cond, _&&_, _||_}
 use mathlib.Core.List.{List, [], _∷_, _++_, map, flatMap, List·Memᴰ, List·Memᴰ·cases-cons, Memᴰ·cast, Memᴰ·append-left}
-use mathlib.Core.Path.{_≡_, refl, sym, subst, _∙_}
+use mathlib.Core.Path.{_≡_, subst, _∙_}
 use mathlib.Core.Logic.{⊎-elim}
-use Prim.Native.Nat.{ℕ, zero, suc, _+_, _*_, _≤_}
+use Prim.Native.Nat.{ℕ, _+_, _*_, _≤_}
 use native.Mathlib.Omega.{arith}
 use lib.Dec.{eqb}
 use lib.ListN.{length, length-map, length-append}
-use Rattle.rules.specs.Lists.{keep, count}
+use Rattle.rules.specs.Lists.{keep}
 use Rattle.rules.specs.Delay.{cap}
 use Rattle.rules.specs.Kinds.{isDevice, repeaterCode, comparatorCode, pistonCode}
 use Rattle.rules.specs.Scene.{EndsListed, Component, Connection, ComponentLists, ConnectionLists, componentsOf, connectionsOf, DistinctIds, idOf, isEdge, edgeOf, edgesOf, rowOf, delayAt, risingIds}
-use Rattle.rules.specs.Graph.{Edge, sourceOf, sinkOf, stronglyConnected}
+use Rattle.rules.specs.Graph.{Edge, sinkOf, stronglyConnected}
 use Rattle.rules.specs.Paths.{delaySum, total}
-use Rattle.rules.specs.Reasons.{Reason, statefulOrMechanicalDevice, lockedRepeater, inFeedback, feedback, feedbackReason, ownReason, unequalAt, unequalReason, unequalReasonsBy, unequalReasons, temporalReasons, reasons}
-use Rattle.rules.specs.Projection.{compressed, marks, firstEdges, chainFrom, beforeLast, projected, pathIds}
+use Rattle.rules.specs.Reasons.{statefulOrMechanicalDevice, lockedRepeater, inFeedback, feedback, feedbackReason, ownReason, unequalAt, unequalReason, unequalReasonsBy, unequalReasons, temporalReasons, reasons}
+use Rattle.rules.specs.Projection.{marks, firstEdges, chainFrom, beforeLast, projected, pathIds}
 use Rattle.rules.specs.Refusals.{SceneLimits, Output, checkScene}
 use Rattle.rules.specs.Describe.{timedEdge, timedEdges, temporalDevice, deviceComponents, devices, connectionEvidence, deviceEvidence, evidence}
 use Rattle.rules.specs.declared.answers.Checked.the-variants.{Accepted}
@@ -25,7 +25,7 @@ use Rattle.rules.proofs.Counts.{count-under, count-every}
 use Rattle.rules.proofs.Sorting.{rising-ids-perm}
 use Rattle.rules.proofs.Acceptance.{AcceptedScene, accepted→, accepted-ids, components-length, connections-length, edge-ends}
 use Rattle.laws.proofs.PlainSums.{capped-total, total-bound, delay-bound}
-use Rattle.laws.proofs.Chains.{chain-before, chain-once, between, chain-into}
+use Rattle.laws.proofs.Chains.{chain-before, chain-once}
 use Rattle.laws.proofs.Projection.{first-edges-out, first-kept, chain-ids, projected-count, path-ids-count}
 
 keep-fewer : {A : Type 0} (f : A → Bool) (l : List A) → length (keep f l) ≤ length l

@@ -4,12 +4,11 @@ use mathlib.Core.List.{List, List·Memᴰ}
 use mathlib.Core.Path.{_≡_, sym, subst, _∙_}
 use Prim.Native.Nat.{ℕ, _-_, _*_, _≤_}
 use native.Mathlib.Omega.{arith}
-use lib.ListN.{length}
 use Rattle.rules.specs.Delay.{cap}
 use Rattle.rules.specs.Scene.{Component, ComponentLists, ConnectionLists, componentsOf, connectionsOf, edgesOf, delayAt}
 use Rattle.rules.specs.Graph.{Edge}
 use Rattle.rules.specs.Paths.{delaySum, total, PathTo, IsExtreme}
-use Rattle.rules.specs.Reasons.{Reason, unequalReconvergentDelay, reasons, UnequalDelay}
+use Rattle.rules.specs.Reasons.{unequalReconvergentDelay, reasons, UnequalDelay}
 use Rattle.rules.specs.Refusals.{SceneLimits, Output, sceneLimits, checkScene}
 use Rattle.rules.specs.declared.answers.Checked.the-variants.{Accepted}
 use Rattle.rules.proofs.ReasonLaws.{unequal→, →unequal}

@@ -8,7 +8,7 @@ use native.Mathlib.Omega.{arith}
 use lib.Dec.{T, T-not, not-T, eqb, ltb, eqb→eq, eqb-refl, nltb→le}
 use lib.ListN.{length, getD, take}
 use Rattle.rules.specs.Lists.{any, keep, count, indices, Distinct}
-use Rattle.rules.specs.Graph.{Edge, sourceOf, sinkOf}
+use Rattle.rules.specs.Graph.{sourceOf, sinkOf}
 use Rattle.rules.specs.Scene.{EndsListed, Component, Connection, ComponentLists, ConnectionLists, componentAt, connectionAt, componentsOf, connectionsOf, isEdge, edgeOf, edgesOf, idOf, hasId, DistinctIds}
 use Rattle.rules.specs.Refusals.{Test, SceneLimits, Output, lengthsDiffer, componentLengths, connectionLengths, outputTest, outOfRange, usedEarlier, componentTests, badTransfer, endMissing, connectionTests, sizeTests, sceneTests, checkScene}
 use Rattle.rules.specs.declared.answers.Checked.the-variants.{Accepted}

@@ -1,9 +1,8 @@
 -- The builds and traces to hold against, as one tabulated fact. Assumes nothing.
-use mathlib.Core.Bool.{Bool, true, false, not, cond, _&&_, _||_}
-use mathlib.Core.List.{List, [], _∷_, _++_, map, flatMap}
+use mathlib.Core.List.{List, [], _∷_, map, flatMap}
 use mathlib.Core.Path.{_≡_, refl}
 use Prim.Native.Nat.{ℕ}
-use lib.IntN.{ℤ, pos}
+use lib.IntN.{pos}
 use lib.ListN.{length, replicate}
 use Rattle.rules.specs.Lists.{any, keep, count, from, indices, insert, rising, once, sum}
 use Rattle.rules.specs.Delay.{saturatingAdd}
@@ -11,10 +10,10 @@ use Rattle.rules.specs.Kinds.{kindRow, delayBy, componentDelay, isDevice
 use Rattle.rules.specs.Graph.{inCount, outCount, reach, settled, stronglyConnected}
 use Rattle.rules.specs.Scene.{Component, Connection, ComponentLists, ConnectionLists, componentAt, connectionAt, edgesOf, rowOf, delayOf, byId, rowAt, delayAt, risingIds}
 use Rattle.rules.specs.Paths.{noIncoming, settledSources, pathsWithin, pathsTo, delaySum, extreme, extremeSum}
-use Rattle.rules.specs.Reasons.{inFeedback, feedback, Reason, unequalReconvergentDelay, feedbackLoop, statefulOrMechanicalDevice, lockedRepeater, feedbackReason, ownReason, unequalAt, unequalReason, unequalReasonsBy, unequalReasons, temporalReasons, reasons, scope, pattern}
+use Rattle.rules.specs.Reasons.{inFeedback, feedback, Reason, unequalReconvergentDelay, feedbackLoop, feedbackReason, ownReason, unequalAt, unequalReason, unequalReasonsBy, unequalReasons, temporalReasons, reasons, scope, pattern}
 use Rattle.rules.specs.Projection.{compressed, marks, retained, firstEdges, next, chain, chainFrom, beforeLast, lastOf, flips, invertsAt, ProjectedEdge, projectedBy, projectedAlong, projected}
 use Rattle.rules.specs.Pulses.{Event, eventAt, isPulse, pulseOf, pulsesIn, eventComponents, pulses}
-use Rattle.rules.specs.Verdicts.{Contract, contractAt, intentOf, designIntent, classify, Finding, findingOf, findings, tally, tallies, findingPolarity, findingWidth, findingVerdict, findingRationale}
+use Rattle.rules.specs.Verdicts.{Contract, contractAt, intentOf, designIntent, classify, Finding, findingOf, findings, tallies, findingPolarity, findingWidth, findingVerdict, findingRationale}
 use Rattle.rules.specs.Refusals.{output, firstRefusal, componentLengths, connectionLengths, outOfRange, usedEarlier, componentTests, endMissing, connectionTests, sizeTests, sceneTests, checkScene}
 use Rattle.rules.specs.Traces.{traceLimits, TraceLists, eventCount, contractCount, eventLengths, contractLengths, contractOutOfRange, notAboveBefore, contractTests, traceTests}
 use Rattle.rules.specs.Recording.{recordFalse, recordTests, checkRecording}

@@ -2,12 +2,12 @@
 use mathlib.Core.Bool.{Bool, true, false, not, cond, _&&_}
 use mathlib.Core.List.{List, [], _∷_, _++_, map, flatMap, List·Memᴰ, List·Memᴰ·head, List·Memᴰ·tail, Memᴰ·cast}
 use mathlib.Core.Path.{_≡_, refl, ap, subst}
-use Prim.Native.Nat.{ℕ, suc, _+_, _≤_, _<_, zero-le}
+use Prim.Native.Nat.{suc, _+_, _≤_, _<_, zero-le}
 use native.Mathlib.Omega.{arith}
 use lib.Dec.{T}
 use lib.ListN.{length}
 use Rattle.rules.specs.Lists.{keep, count, Distinct}
-use Rattle.rules.proofs.Lists.{chosen, not-chosen, keep-out, flat-out}
+use Rattle.rules.proofs.Lists.{chosen, keep-out, flat-out}
 use Rattle.rules.proofs.Distinct.{distinct-append}
 
 module _ {A : Type 0} where

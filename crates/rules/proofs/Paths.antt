@@ -1,7 +1,7 @@
 -- `settled` and `pathsTo` are what the predicates say. Assumes nothing.
-use mathlib.Core.Bool.{Bool, true, false, not, cond, _&&_, _||_}
-use mathlib.Core.List.{List, [], _∷_, _++_, map, flatMap, List·Memᴰ, List·Memᴰ·head, List·Memᴰ·tail, List·Memᴰ·not-nil, List·Memᴰ·cases-cons, List·Memᴰ·append-cases, Memᴰ·append-left, Memᴰ·append-right, Memᴰ·map, Memᴰ·of-map, Memᴰ·cast, List·Memᴰ·eq-of-singleton}
-use mathlib.Core.Path.{_≡_, refl, sym, ap, ap₂, subst, _∙_}
+use mathlib.Core.Bool.{Bool, true, false, cond}
+use mathlib.Core.List.{List, [], _∷_, map, flatMap, List·Memᴰ, List·Memᴰ·head, List·Memᴰ·not-nil, List·Memᴰ·cases-cons, List·Memᴰ·append-cases, Memᴰ·append-left, Memᴰ·append-right, Memᴰ·map, Memᴰ·of-map, Memᴰ·cast, List·Memᴰ·eq-of-singleton}
+use mathlib.Core.Path.{_≡_, refl, sym, ap, ap₂, subst}
 use mathlib.Core.Logic.{_⊎_, inl, inr, ⊎-elim}
 use Prim.Native.Nat.{ℕ, zero, suc, _≤_, _<_}
 use native.Mathlib.Omega.{arith}
@@ -9,10 +9,10 @@ use native.Mathlib.Nat.{not-suc-le-zero}
 use lib.Dec.{T, T-not, not-T, eqb, eqb→eq, eqb-refl}
 use lib.ListN.{length, length-map}
 use Rattle.rules.specs.Lists.{any, keep, Distinct}
-use Rattle.rules.specs.Graph.{Edge, _⟶_, sourceOf, sinkOf, endsAt, cycleReaching, reach, settled, Walk, stop, step, OnCycle, Settled}
+use Rattle.rules.specs.Graph.{Edge, _⟶_, sourceOf, endsAt, cycleReaching, settled, Walk, stop, step, Settled}
 use Rattle.rules.specs.Paths.{entersSettled, noIncoming, settledSources, pathsWithin, pathsTo, PathTo, only, then}
-use Rattle.rules.proofs.Lists.{or-left, or-right, or-cases, and-left, and-right, and-both, same-test, eq-test, tests, any-in, any-out, keep-in, keep-out, flat-in, flat-out}
-use Rattle.rules.proofs.Reach.{Within, join, wider, reach→walk, walk→reach}
+use Rattle.rules.proofs.Lists.{and-left, and-right, tests, any-in, any-out, keep-in, keep-out, flat-in, flat-out}
+use Rattle.rules.proofs.Reach.{join, reach→walk, walk→reach}
 use Rattle.rules.proofs.Distinct.{pigeon}
 
 module _ (es : List Edge) where

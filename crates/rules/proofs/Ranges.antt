@@ -1,18 +1,17 @@
 -- A settled component has a path, and its range is made of one range for each incoming edge from a settled source. Assumes nothing.
-use mathlib.Core.Bool.{Bool, true, false, not, cond, _&&_, _||_}
-use mathlib.Core.List.{List, [], _∷_, _++_, map, flatMap, List·Memᴰ, List·Memᴰ·head, List·Memᴰ·tail, List·Memᴰ·not-nil, List·Memᴰ·cases-cons, Memᴰ·map, Memᴰ·of-map, Memᴰ·cast}
-use mathlib.Core.Path.{_≡_, refl, sym, ap, ap₂, subst, _∙_}
+use mathlib.Core.Bool.{Bool, true, false, not}
+use mathlib.Core.List.{List, [], _∷_, map, List·Memᴰ, List·Memᴰ·not-nil, List·Memᴰ·cases-cons, Memᴰ·map, Memᴰ·of-map, Memᴰ·cast}
+use mathlib.Core.Path.{_≡_, refl, sym, ap, subst}
 use mathlib.Core.Logic.{_⊎_, inl, inr, ⊎-elim}
-use Prim.Native.Nat.{ℕ, zero, suc, _+_, min, max, _≤_, _<_}
+use Prim.Native.Nat.{ℕ, zero, suc, _+_, _<_}
 use native.Mathlib.Omega.{arith}
-use lib.Dec.{T, eqb, eqb→eq}
+use lib.Dec.{T, eqb→eq}
 use lib.ListN.{length, length-map}
 use Rattle.rules.specs.Lists.{any, Distinct}
-use Rattle.rules.specs.Graph.{Edge, _⟶_, sourceOf, sinkOf, endsAt, Walk, stop, step, OnCycle, Settled}
+use Rattle.rules.specs.Graph.{Edge, _⟶_, sinkOf, endsAt, Walk, stop, step, Settled}
 use Rattle.rules.specs.Delay.{saturatingAdd}
 use Rattle.rules.specs.Paths.{noIncoming, settledSources, pathsTo, delaySum, extreme, extremeSum, PathTo, only, then, IsExtreme}
 use Rattle.rules.proofs.Lists.{any-out}
-use Rattle.rules.proofs.Reach.{join}
 use Rattle.rules.proofs.Distinct.{pigeon}
 use Rattle.rules.proofs.Paths.{noIncoming→, settled-back, source-in, source-out, path→listed, listed→path}
 use Rattle.rules.proofs.Sums.{Choice, extreme-at, extreme-good, extreme-same, Under}

@@ -1,12 +1,12 @@
 -- `reach` is a walk. Assumes nothing.
-use mathlib.Core.Bool.{Bool, true, false, not, _&&_, _||_}
+use mathlib.Core.Bool.{_&&_, _||_}
 use mathlib.Core.List.{List, [], _∷_, List·Memᴰ, List·Memᴰ·head, List·Memᴰ·tail, List·Memᴰ·not-nil, List·Memᴰ·cases-cons}
-use mathlib.Core.Path.{_≡_, refl, sym, ap, subst, _∙_}
+use mathlib.Core.Path.{_≡_, refl, sym, ap, subst}
 use mathlib.Core.Logic.{_⊎_, inl, inr}
-use Prim.Native.Nat.{ℕ, zero, suc}
-use lib.Dec.{T, eqb, eqb→eq, eqb-refl}
+use Prim.Native.Nat.{ℕ}
+use lib.Dec.{T, eqb→eq, eqb-refl}
 use Rattle.rules.specs.Graph.{Edge, _⟶_, sourceOf, sinkOf, reach, Walk, stop, step}
-use Rattle.rules.proofs.Lists.{or-left, or-right, or-cases, and-left, and-right, and-both, same-test, eq-test, tests}
+use Rattle.rules.proofs.Lists.{or-left, or-cases, same-test, eq-test, tests}
 
 abbrev pub Within : List Edge → List Edge → Type 0
 Within es fs = (e : Edge) → List·Memᴰ e es → List·Memᴰ e fs

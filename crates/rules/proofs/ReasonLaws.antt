@@ -1,19 +1,18 @@
 -- The listed Feedback ids and unequal-delay reasons are those of the plain notions. Assumes nothing.
 use mathlib.Core.Bool.{Bool, true, false, not, cond, _&&_, _||_}
-use mathlib.Core.List.{List, [], _∷_, _++_, map, flatMap, List·Memᴰ, List·Memᴰ·head, List·Memᴰ·tail, List·Memᴰ·not-nil, List·Memᴰ·append-cases, List·Memᴰ·eq-of-singleton, Memᴰ·append-right, Memᴰ·map, Memᴰ·of-map, Memᴰ·cast, Permᴰ·symm}
+use mathlib.Core.List.{List, [], _∷_, map, List·Memᴰ, List·Memᴰ·head, List·Memᴰ·not-nil, List·Memᴰ·append-cases, List·Memᴰ·eq-of-singleton, Memᴰ·append-right, Memᴰ·map, Memᴰ·of-map, Memᴰ·cast, Permᴰ·symm}
 use mathlib.Core.Path.{_≡_, refl, sym, subst, _∙_}
 use mathlib.Core.Logic.{_⊎_, inl, inr, ⊎-elim}
-use Prim.Native.Nat.{ℕ, _≤_, min, max}
+use Prim.Native.Nat.{ℕ, _≤_}
 use native.Mathlib.Omega.{arith}
-use lib.Dec.{T, T-not, not-T, eqb, eqb→eq, eqb-refl, leb, leb→le, le→leb}
+use lib.Dec.{T, T-not, not-T, eqb, eqb→eq, leb, leb→le, le→leb}
 use Rattle.rules.specs.Lists.{any, keep}
 use Rattle.rules.specs.Kinds.{repeaterCode, comparatorCode, pistonCode}
 use Rattle.rules.specs.Scene.{Component, idOf, rowOf, delayAt, risingIds}
 use Rattle.rules.specs.Graph.{Edge, inCount, reach, stronglyConnected}
-use Rattle.rules.specs.Paths.{pathsTo, delaySum, extreme, extremeSum, smallestSum, largestSum, PathTo, Smallest, Largest, IsExtreme}
-use Rattle.rules.specs.Reasons.{passive, otherIn, inFeedback, feedback, Reason, unequalReconvergentDelay, feedbackLoop, statefulOrMechanicalDevice, lockedRepeater, reasonKind, feedbackReason, ownReason, unequalAt, unequalReason, unequalReasonsBy, unequalReasons, temporalReasons, reasons, OnFeedback, UnequalDelay}
-use Rattle.rules.specs.declared.kinds.KindRow.{KindRow}
-use Rattle.rules.proofs.Lists.{tests, any-in, any-out, keep-in, keep-out, flat-out, eq-test, and-left, and-right, and-both}
+use Rattle.rules.specs.Paths.{pathsTo, delaySum, extreme, extremeSum, smallestSum, largestSum, PathTo}
+use Rattle.rules.specs.Reasons.{passive, otherIn, inFeedback, feedback, Reason, unequalReconvergentDelay, statefulOrMechanicalDevice, lockedRepeater, reasonKind, feedbackReason, ownReason, unequalAt, unequalReason, unequalReasonsBy, unequalReasons, temporalReasons, reasons, OnFeedback, UnequalDelay}
+use Rattle.rules.proofs.Lists.{any-in, any-out, keep-in, keep-out, flat-out, eq-test, and-left, and-right, and-both}
 use Rattle.rules.proofs.Permutations.{perm-mem}
 use Rattle.rules.proofs.Reach.{reach→walk, walk→reach}
 use Rattle.rules.proofs.Paths.{listed→path}

@@ -10,7 +10,6 @@ use Rattle.rules.specs.Scene.{Component, Connection, Scene, ComponentLis
 use Rattle.rules.specs.Refusals.{SceneLimits, Output, output, checkScene}
 use Rattle.rules.specs.declared.kinds.DeviceMeaning.{DeviceMeaning}
 use Rattle.rules.specs.declared.kinds.DeviceMeaning.the-variants.{NoDevice, Device}
-use Rattle.rules.specs.declared.kinds.KindRow.{KindRow}
 use Rattle.rules.specs.declared.answers.Checked.{Checked}
 use Rattle.rules.specs.declared.answers.Checked.the-variants.{Accepted, Refused}
 use Rattle.rules.specs.declared.answers.Description.{Description}

@@ -4,7 +4,6 @@ use mathlib.Core.List.{List, [], _∷_}
 use Prim.Native.Nat.{ℕ}
 use lib.Dec.{ltb}
 use lib.ListN.{getD}
-use Rattle.rules.specs.declared.kinds.TemporalNodeKind.{TemporalNodeKind}
 use Rattle.rules.specs.declared.kinds.TemporalNodeKind.the-variants.{Source, Wire, Inverter, Delay, Comparator, Actuator, Conductor}
 use Rattle.rules.specs.declared.kinds.EdgeBehavior.{EdgeBehavior}
 use Rattle.rules.specs.declared.kinds.TemporalSemantics.{TemporalSemantics}

@@ -1,12 +1,12 @@
 -- Paths and their sums. Assumes nothing: these are definitions.
-use mathlib.Core.Bool.{Bool, true, false, not, cond, _&&_}
+use mathlib.Core.Bool.{Bool, not, cond, _&&_}
 use mathlib.Core.List.{List, [], _∷_, _++_, map, flatMap, List·Memᴰ}
 use mathlib.Core.Path.{_≡_}
 use Prim.Native.Nat.{ℕ, zero, suc, _+_, _≤_, min, max}
 use lib.ListN.{length}
 use Rattle.rules.specs.Lists.{any, keep}
 use Rattle.rules.specs.Delay.{saturatingAdd}
-use Rattle.rules.specs.Graph.{Edge, _⟶_, sourceOf, sinkOf, endsAt, settled, Settled}
+use Rattle.rules.specs.Graph.{Edge, _⟶_, sourceOf, endsAt, settled, Settled}
 
 -- no edge ends at v
 unfoldable pub noIncoming : List Edge → ℕ → Bool

@@ -12,7 +12,6 @@ use Rattle.rules.specs.declared.kinds.TemporalNodeKind.{TemporalNodeKind
 use Rattle.rules.specs.declared.kinds.TemporalNodeKind.the-variants.{Source, Wire, Inverter, Delay, Comparator, Actuator, Conductor}
 use Rattle.rules.specs.declared.kinds.EdgeBehavior.{EdgeBehavior}
 use Rattle.rules.specs.declared.kinds.EdgeBehavior.the-variants.{Immediate, DelayedForward, DelayedInvert, Analog, Mechanical, OrderSensitive}
-use Rattle.rules.specs.declared.kinds.KindRow.{KindRow}
 
 -- Wire, Conductor or Delay
 abbrev pub compressibleKind : TemporalNodeKind → Bool

@@ -11,7 +11,6 @@ use Rattle.rules.specs.Graph.{Edge, inCount, stronglyConnected, Walk}
 use Rattle.rules.specs.Paths.{smallestSum, largestSum, Smallest, Largest}
 use Rattle.rules.specs.declared.kinds.TemporalNodeKind.{TemporalNodeKind}
 use Rattle.rules.specs.declared.kinds.TemporalNodeKind.the-variants.{Source, Wire, Inverter, Delay, Comparator, Actuator, Conductor}
-use Rattle.rules.specs.declared.kinds.KindRow.{KindRow}
 use Rattle.rules.specs.declared.answers.TemporalScope.{TemporalScope}
 use Rattle.rules.specs.declared.answers.TemporalScope.the-variants.{SteadyStateSafe, TimingSensitive, TemporalRequired}
 use Rattle.rules.specs.declared.answers.BehaviorPattern.{BehaviorPattern}

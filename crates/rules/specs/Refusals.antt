@@ -1,8 +1,8 @@
 -- The tests of the refusals and their order, with those of a scene: 1 to 8. Refusals 9 to 12 are in Traces, 13 and 15 in Recording.
 -- Assumes nothing: these are definitions.
-use mathlib.Core.Bool.{Bool, true, false, not, cond, _&&_, _||_}
+use mathlib.Core.Bool.{Bool, false, not, cond, _&&_, _||_}
 use mathlib.Core.List.{List, [], _∷_, _++_, map, flatMap}
-use Prim.Native.Nat.{ℕ, _+_, _*_}
+use Prim.Native.Nat.{ℕ}
 use lib.Dec.{eqb, ltb}
 use lib.ListN.{length, getD, take}
 use Rattle.rules.specs.Lists.{any, indices, writtenFrom}

@@ -6,8 +6,8 @@ use lib.Dec.{eqb, leb, ltb}
 use lib.ListN.{length, getD, replicate}
 use Rattle.rules.specs.Lists.{indices}
 use Rattle.rules.specs.Codes.{unitOf}
-use Rattle.rules.specs.Refusals.{Test, test, firstRefusal, Output, output, outputTest, lengthsDiffer}
-use Rattle.rules.specs.Pulses.{Event, EventLists, eventAt, eventsOf}
+use Rattle.rules.specs.Refusals.{Test, test, firstRefusal, output, outputTest, lengthsDiffer}
+use Rattle.rules.specs.Pulses.{EventLists, eventAt, eventsOf}
 use Rattle.rules.specs.Verdicts.{Contract, ContractLists, contractAt, contractsOf, Finding, findings, tallies}
 use Rattle.rules.specs.declared.answers.Checked.{Checked}
 use Rattle.rules.specs.declared.answers.Checked.the-variants.{Accepted, Refused}
