@@ -1,6 +1,4 @@
 // What the scene calls answer.
-ghost use mathlib.Core.Path.{_≡_};
-ghost use Rattle.rules.specs.Codes.{scopeCode, patternCode};
 
 // What the checks find: nothing to refuse, or the number of a refusal and its place.
 pub enum Checked {
@@ -52,29 +50,4 @@ pub struct Assessment {
 pub enum SceneAnswer {
     Refused { number: u32, place: u64 },
     Assessed(Assessment),
-}
-
-impl TemporalScope {
-    pub fn code(self) -> u8
-        ensures { λ r. ⌜ r ≡ scopeCode self ⌝ }
-    {
-        match self {
-            TemporalScope::SteadyStateSafe => 0,
-            TemporalScope::TimingSensitive => 1,
-            TemporalScope::TemporalRequired => 2,
-        }
-    }
-}
-
-impl BehaviorPattern {
-    pub fn code(self) -> u8
-        ensures { λ r. ⌜ r ≡ patternCode self ⌝ }
-    {
-        match self {
-            BehaviorPattern::DelayedPath => 0,
-            BehaviorPattern::ClockCandidate => 1,
-            BehaviorPattern::LatchCandidate => 2,
-            BehaviorPattern::Nothing => 3,
-        }
-    }
 }

@@ -1,6 +1,4 @@
 // Pulses, verdicts and the running record.
-ghost use mathlib.Core.Path.{_≡_};
-ghost use Rattle.rules.specs.Codes.{polarityCode, unitCode, verdictCode, polarityOf, unitOf};
 
 pub enum PulsePolarity {
     High,
@@ -80,60 +78,4 @@ pub struct TransientAssessment {
 pub struct Recorded {
     pub answer: TransientAnswer,
     pub held: TransientRecord,
-}
-
-impl PulsePolarity {
-    pub fn code(self) -> u8
-        ensures { λ r. ⌜ r ≡ polarityCode self ⌝ }
-    {
-        match self {
-            PulsePolarity::High => 0,
-            PulsePolarity::Low => 1,
-        }
-    }
-
-    pub fn of(code: u8) -> Self
-        ensures { λ r. ⌜ r ≡ polarityOf code ⌝ }
-    {
-        if code == 0 {
-            PulsePolarity::High
-        } else {
-            PulsePolarity::Low
-        }
-    }
-}
-
-impl TraceTimeUnit {
-    pub fn code(self) -> u8
-        ensures { λ r. ⌜ r ≡ unitCode self ⌝ }
-    {
-        match self {
-            TraceTimeUnit::RedstoneTick => 0,
-            TraceTimeUnit::GameTick => 1,
-        }
-    }
-
-    pub fn of(code: u8) -> Self
-        ensures { λ r. ⌜ r ≡ unitOf code ⌝ }
-    {
-        if code == 0 {
-            TraceTimeUnit::RedstoneTick
-        } else {
-            TraceTimeUnit::GameTick
-        }
-    }
-}
-
-impl TransientVerdict {
-    pub fn code(self) -> u8
-        ensures { λ r. ⌜ r ≡ verdictCode self ⌝ }
-    {
-        match self {
-            TransientVerdict::PulseObserved => 0,
-            TransientVerdict::TransientDeviation => 1,
-            TransientVerdict::HazardCandidate => 2,
-            TransientVerdict::HazardConfirmed => 3,
-            TransientVerdict::IntentionalPulse => 4,
-        }
-    }
 }

@@ -1,0 +1,114 @@
+// The kind table: what each block kind is in the timing analysis.
+ghost use mathlib.Core.Path.{_≡_};
+ghost use Rattle.rules.specs.Kinds.{kindRow, componentDelay, edgeTiming};
+use rules::delay::DelayRange;
+use rules::kinds::DeviceMeaning;
+use rules::kinds::EdgeBehavior;
+use rules::kinds::EdgeTiming;
+use rules::kinds::KindDelay;
+use rules::kinds::KindRow;
+use rules::kinds::TemporalNodeKind;
+use rules::kinds::TemporalSemantics;
+
+const CONDUCTOR: KindRow = KindRow {
+    node: TemporalNodeKind::Conductor,
+    delay: KindDelay::Fixed(0),
+    behavior: EdgeBehavior::Immediate,
+    meaning: DeviceMeaning::NoDevice,
+};
+
+const SOURCE: KindRow = KindRow {
+    node: TemporalNodeKind::Source,
+    delay: KindDelay::Fixed(0),
+    behavior: EdgeBehavior::Immediate,
+    meaning: DeviceMeaning::NoDevice,
+};
+
+const WIRE: KindRow = KindRow {
+    node: TemporalNodeKind::Wire,
+    delay: KindDelay::Fixed(0),
+    behavior: EdgeBehavior::OrderSensitive,
+    meaning: DeviceMeaning::NoDevice,
+};
+
+const TORCH: KindRow = KindRow {
+    node: TemporalNodeKind::Inverter,
+    delay: KindDelay::Fixed(1),
+    behavior: EdgeBehavior::DelayedInvert,
+    meaning: DeviceMeaning::Device(TemporalSemantics::DelayedInvert),
+};
+
+const REPEATER: KindRow = KindRow {
+    node: TemporalNodeKind::Delay,
+    delay: KindDelay::Own(1),
+    behavior: EdgeBehavior::DelayedForward,
+    meaning: DeviceMeaning::Device(TemporalSemantics::DelayedForward),
+};
+
+const COMPARATOR: KindRow = KindRow {
+    node: TemporalNodeKind::Comparator,
+    delay: KindDelay::Fixed(0),
+    behavior: EdgeBehavior::Analog,
+    meaning: DeviceMeaning::Device(TemporalSemantics::CompareOrSubtract),
+};
+
+const PISTON: KindRow = KindRow {
+    node: TemporalNodeKind::Actuator,
+    delay: KindDelay::Fixed(1),
+    behavior: EdgeBehavior::Mechanical,
+    meaning: DeviceMeaning::Device(TemporalSemantics::MechanicalActuation),
+};
+
+// By code: Air, Solid, Transparent, Lever, Button, PressurePlate, RedstoneLamp, RedstoneBlock, RedstoneWire,
+// RedstoneTorch, Repeater, Comparator, Piston.
+const KINDS: [KindRow; 13] = [
+    CONDUCTOR,
+    CONDUCTOR,
+    CONDUCTOR,
+    SOURCE,
+    SOURCE,
+    SOURCE,
+    CONDUCTOR,
+    SOURCE,
+    WIRE,
+    TORCH,
+    REPEATER,
+    COMPARATOR,
+    PISTON,
+];
+
+// The row of a kind code. A code past the table, which the checks refuse, is given Air's.
+pub fn kind_row(code: u8) -> KindRow
+    ensures { λ r. ⌜ r ≡ kindRow code ⌝ }
+{
+    let i = code as usize;
+    if i < 13 { KINDS[i] } else { CONDUCTOR }
+}
+
+// The delay of a component by its kind code and its delay word.
+pub fn component_delay(code: u8, word: u16) -> u32
+    ensures { λ r. ⌜ r ≡ componentDelay code word ⌝ }
+{
+    let row = kind_row(code);
+    let delay = row.delay;
+    match delay {
+        KindDelay::Fixed(ticks) => ticks,
+        KindDelay::Own(absent) => if word < 256 { word as u32 } else { absent },
+    }
+}
+
+// What an edge takes from its source.
+pub fn edge_timing(code: u8, word: u16) -> EdgeTiming
+    ensures { λ r. ⌜ r ≡ edgeTiming code word ⌝ }
+{
+    let row = kind_row(code);
+    let behavior = row.behavior;
+    let ticks = component_delay(code, word);
+    EdgeTiming {
+        delay: DelayRange {
+            minimum_redstone_ticks: ticks,
+            maximum_redstone_ticks: ticks,
+        },
+        behavior,
+    }
+}
