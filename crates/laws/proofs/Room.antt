@@ -3,7 +3,7 @@ use mathlib.Core.Bool.{Bool, true, false, cond, _&&_, _||_}
 use mathlib.Core.List.{List, [], _∷_, _++_, map, flatMap, List·Memᴰ, List·Memᴰ·cases-cons, Memᴰ·cast, Memᴰ·append-left}
 use mathlib.Core.Path.{_≡_, subst, _∙_}
 use mathlib.Core.Logic.{⊎-elim}
-use Prim.Native.Nat.{ℕ, _+_, _*_, _≤_}
+use Prim.Native.Nat.{ℕ, _+_, _-_, _*_, _≤_}
 use native.Mathlib.Omega.{arith}
 use lib.Dec.{eqb}
 use lib.ListN.{length, length-map, length-append}
@@ -12,10 +12,10 @@ use Rattle.rules.specs.Delay.{cap}
 use Rattle.rules.specs.Kinds.{isDevice, repeaterCode, comparatorCode, pistonCode}
 use Rattle.rules.specs.Scene.{EndsListed, Component, Connection, ComponentLists, ConnectionLists, componentsOf, connectionsOf, DistinctIds, idOf, isEdge, edgeOf, edgesOf, rowOf, delayAt, risingIds}
 use Rattle.rules.specs.Graph.{Edge, sinkOf, stronglyConnected}
-use Rattle.rules.specs.Paths.{delaySum, total}
+use Rattle.rules.specs.Paths.{delaySum, total, PathTo}
 use Rattle.rules.specs.Reasons.{statefulOrMechanicalDevice, lockedRepeater, inFeedback, feedback, feedbackReason, ownReason, unequalAt, unequalReason, unequalReasonsBy, unequalReasons, temporalReasons, reasons}
 use Rattle.rules.specs.Projection.{marks, firstEdges, chainFrom, beforeLast, projected, pathIds}
-use Rattle.rules.specs.Refusals.{SceneLimits, Output, checkScene}
+use Rattle.rules.specs.Refusals.{SceneLimits, Output, sceneLimits, checkScene}
 use Rattle.rules.specs.Describe.{timedEdge, timedEdges, temporalDevice, deviceComponents, devices, connectionEvidence, deviceEvidence, evidence}
 use Rattle.rules.specs.declared.answers.Checked.the-variants.{Accepted}
 use Rattle.rules.specs.Labels.{label, labels}
@@ -24,7 +24,7 @@ use Rattle.rules.proofs.Permutations.{keep-length, perm-length}
 use Rattle.rules.proofs.Counts.{count-under, count-every}
 use Rattle.rules.proofs.Sorting.{rising-ids-perm}
 use Rattle.rules.proofs.Acceptance.{AcceptedScene, accepted→, accepted-ids, components-length, connections-length, edge-ends}
-use Rattle.laws.proofs.PlainSums.{capped-total, total-bound, delay-bound}
+use Rattle.laws.proofs.PlainSums.{capped-total, path-plain, total-bound, delay-bound}
 use Rattle.laws.proofs.Chains.{chain-before, chain-once}
 use Rattle.laws.proofs.Projection.{first-edges-out, first-kept, chain-ids, projected-count, path-ids-count}
 
@@ -161,7 +161,15 @@ module _ (limits : SceneLimits) (l : ComponentLists) (m : ConnectionLists) (outp
     components-length l,
   )
 
+  -- path sums and projected delays are plain sums
+  pub accepted-path-plain : (limits .components - 1) * 255 ≤ cap → {v : ℕ} {p : List ℕ} → PathTo joins v p → delaySum (delayAt components) p ≡ total (delayAt components) p
+  accepted-path-plain h P = path-plain components joins (edge-ends facts) (limits .components) (omega (arith, facts .components-few, components-length l)) h P
+
   pub accepted-projected-plain : limits .components * 255 ≤ cap → (e : Edge) → List·Memᴰ e (firstEdges components joins)
       → delaySum (delayAt components) (beforeLast (chainFrom components joins e)) ≡ total (delayAt components) (beforeLast (chainFrom components joins e))
   accepted-projected-plain h e n =
       projected-plain components joins (edge-ends facts) (accepted-ids facts) e n (omega (arith, facts .components-few, components-length l))
+
+-- the base's limit leaves room for every sum
+pub base-room : sceneLimits .components * 255 ≤ cap
+base-room = omega arith

@@ -3,17 +3,15 @@
 use mathlib.Core.List.{List, List·Memᴰ}
 use mathlib.Core.Path.{_≡_, sym, subst, _∙_}
 use Prim.Native.Nat.{ℕ, _-_, _*_, _≤_}
-use native.Mathlib.Omega.{arith}
 use Rattle.rules.specs.Delay.{cap}
 use Rattle.rules.specs.Scene.{Component, ComponentLists, ConnectionLists, componentsOf, connectionsOf, edgesOf, delayAt}
 use Rattle.rules.specs.Graph.{Edge}
 use Rattle.rules.specs.Paths.{delaySum, total, PathTo, IsExtreme}
 use Rattle.rules.specs.Reasons.{unequalReconvergentDelay, reasons, UnequalDelay}
-use Rattle.rules.specs.Refusals.{SceneLimits, Output, sceneLimits, checkScene}
+use Rattle.rules.specs.Refusals.{SceneLimits, Output, checkScene}
 use Rattle.rules.specs.declared.answers.Checked.the-variants.{Accepted}
 use Rattle.rules.proofs.ReasonLaws.{unequal→, →unequal}
-use Rattle.rules.proofs.Acceptance.{AcceptedScene, accepted→, components-length, edge-ends}
-use Rattle.laws.proofs.PlainSums.{path-plain}
+use Rattle.laws.proofs.Room.{accepted-path-plain}
 
 -- sums that agree on every path have the same extremes
 extreme-agrees : {Bounds : ℕ → ℕ → Type 0} {es : List Edge} {s t : List ℕ → ℕ} {v n : ℕ} → ((p : List ℕ) → PathTo es v p → s p ≡ t p) → IsExtreme Bounds es s v n → IsExtreme Bounds es t v n
@@ -42,18 +40,11 @@ module _ (limits : SceneLimits) (l : ComponentLists) (m : ConnectionLists) (outp
   abbrev es : List Edge
   es = edgesOf (connectionsOf m)
 
-  facts : AcceptedScene limits l m outputs
-  facts = accepted→ limits l m outputs accepted
-
   plain : (v : ℕ) (p : List ℕ) → PathTo es v p → delaySum (delayAt cs) p ≡ total (delayAt cs) p
-  plain v p P = path-plain cs es (edge-ends facts) (limits .components) (omega (arith, facts .components-few, components-length l)) room P
+  plain v p P = accepted-path-plain limits l m outputs accepted room P
 
   pub unequal-reason→ : (v low high : ℕ) → List·Memᴰ (unequalReconvergentDelay v low high) (reasons cs es) → UnequalDelay cs es (total (delayAt cs)) (total (delayAt cs)) v low high
   unequal-reason→ v low high n = unequal-same (plain v) (unequal→ cs es v low high n)
 
   pub →unequal-reason : (v low high : ℕ) → UnequalDelay cs es (total (delayAt cs)) (total (delayAt cs)) v low high → List·Memᴰ (unequalReconvergentDelay v low high) (reasons cs es)
   →unequal-reason v low high u = →unequal cs es v low high (unequal-same (λ p P. sym (plain v p P)) u)
-
--- the base's limit leaves room for every sum
-pub base-room : (sceneLimits .components - 1) * 255 ≤ cap
-base-room = omega arith

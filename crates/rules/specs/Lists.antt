@@ -1,7 +1,7 @@
 -- Words about lists that the rules are written with. Assumes nothing: these are definitions.
 use mathlib.Core.Bool.{Bool, true, false, not, cond, _||_}
 use mathlib.Core.List.{List, [], _∷_, _++_, List·Memᴰ}
-use Prim.Native.Nat.{ℕ, zero, suc, _+_}
+use Prim.Native.Nat.{ℕ, zero, suc, _+_, _≤_}
 use lib.Dec.{leb, eqb}
 use lib.ListN.{length, take, drop}
 
@@ -57,6 +57,11 @@ insert x (y ∷ ys) = let r = insert x ys in cond (leb x y) (x ∷ y ∷ ys) (y 
 unfoldable pub rising : List ℕ → List ℕ
 rising [] = []
 rising (x ∷ xs) = insert x (rising xs)
+
+-- no number is above a later one (for the laws)
+abbrev pub Rising : List ℕ → Type 0
+Rising [] = Unit {0}
+Rising (x ∷ l) = ((y : ℕ) → List·Memᴰ y l → x ≤ y) × Rising l
 
 -- each number of the list once, in its first place
 unfoldable pub once : List ℕ → List ℕ
