@@ -7,13 +7,13 @@ use Prim.Native.Nat.{ℕ, zero, suc, _+_, _≤_}
 use native.Mathlib.Omega.{arith}
 use lib.Dec.{T, eqb→eq}
 use lib.ListN.{length, getD, length-append, length-map}
-use Rattle.rules.specs.Lists.{keep, Distinct}
+use Rattle.rules.specs.Lists.{keep}
 use Rattle.rules.specs.Graph.{Edge, _⟶_, sourceOf, sinkOf, startsAt, endsAt, inCount, outCount}
 use Rattle.rules.specs.Scene.{Component}
 use Rattle.rules.specs.Projection.{compressed, next, chain, chainFrom, beforeLast, lastOf}
 use Rattle.rules.proofs.Lists.{tests, keep-in, keep-out, eq-test}
 use Rattle.rules.proofs.Permutations.{keep-length}
-use Rattle.rules.proofs.Distinct.{pigeon}
+use Rattle.rules.proofs.Distinct.{pigeon, Distinct}
 
 -- Rows by their last
 
@@ -144,8 +144,8 @@ module _ (es : List Edge) (through : ℕ → Bool) where
 
 module _ (cs : List Component) (es : List Edge) where
   -- the components strictly between the ends of a chain
-  unfoldable pub between : Edge → List ℕ
-  between e = beforeLast (chain (length es) es (compressed cs es) (sinkOf e))
+  unfoldable pub inner : Edge → List ℕ
+  inner e = beforeLast (chain (length es) es (compressed cs es) (sinkOf e))
 
   pub compressed-in : (v : ℕ) → T (compressed cs es v) → inCount es v ≡ 1
   unfolding compressed
@@ -155,29 +155,29 @@ module _ (cs : List Component) (es : List Edge) where
   unfolding compressed
   compressed-out v t = eqb→eq (outCount es v) 1 (search tests)
 
-  goes-between : (e : Edge) → Goes es (compressed cs es) (length es) (sinkOf e) (between e) (lastOf (chainFrom cs es e)) × (chainFrom cs es e ≡ sourceOf e ∷ (between e ++ (lastOf (chainFrom cs es e) ∷ [])))
-  unfolding chainFrom between
+  goes-between : (e : Edge) → Goes es (compressed cs es) (length es) (sinkOf e) (inner e) (lastOf (chainFrom cs es e)) × (chainFrom cs es e ≡ sourceOf e ∷ (inner e ++ (lastOf (chainFrom cs es e) ∷ [])))
+  unfolding chainFrom inner
   goes-between e = at (walked es (compressed cs es) (length es) (sinkOf e))
     where
       at : ((l : List ℕ) × (w : ℕ) × Goes es (compressed cs es) (length es) (sinkOf e) l w × (chain (length es) es (compressed cs es) (sinkOf e) ≡ l ++ (w ∷ [])))
-          → Goes es (compressed cs es) (length es) (sinkOf e) (between e) (lastOf (chainFrom cs es e)) × (chainFrom cs es e ≡ sourceOf e ∷ (between e ++ (lastOf (chainFrom cs es e) ∷ [])))
+          → Goes es (compressed cs es) (length es) (sinkOf e) (inner e) (lastOf (chainFrom cs es e)) × (chainFrom cs es e ≡ sourceOf e ∷ (inner e ++ (lastOf (chainFrom cs es e) ∷ [])))
       at r = rw (r .3, before-appended (r .0) (r .1), last-appended (sourceOf e ∷ r .0) (r .1)) (r .2, refl)
 
-  pub chain-parts : (e : Edge) → chainFrom cs es e ≡ sourceOf e ∷ (between e ++ (lastOf (chainFrom cs es e) ∷ []))
+  pub chain-parts : (e : Edge) → chainFrom cs es e ≡ sourceOf e ∷ (inner e ++ (lastOf (chainFrom cs es e) ∷ []))
   chain-parts e = goes-between e .1
 
-  pub chain-length : (e : Edge) → length (chainFrom cs es e) ≡ 2 + length (between e)
-  chain-length e = omega (arith, ap length (chain-parts e), length-append (between e) (lastOf (chainFrom cs es e) ∷ []))
+  pub chain-length : (e : Edge) → length (chainFrom cs es e) ≡ 2 + length (inner e)
+  chain-length e = omega (arith, ap length (chain-parts e), length-append (inner e) (lastOf (chainFrom cs es e) ∷ []))
 
-  pub chain-before : (e : Edge) → beforeLast (chainFrom cs es e) ≡ sourceOf e ∷ between e
-  chain-before e = ap beforeLast (chain-parts e) ∙ before-appended (sourceOf e ∷ between e) (lastOf (chainFrom cs es e))
+  pub chain-before : (e : Edge) → beforeLast (chainFrom cs es e) ≡ sourceOf e ∷ inner e
+  chain-before e = ap beforeLast (chain-parts e) ∙ before-appended (sourceOf e ∷ inner e) (lastOf (chainFrom cs es e))
 
   -- the components strictly between the ends are compressed
-  pub chain-between : (e : Edge) (y : ℕ) → List·Memᴰ y (between e) → T (compressed cs es y)
-  chain-between e = all-through es (compressed cs es) (goes-between e .0)
+  pub chain-inner : (e : Edge) (y : ℕ) → List·Memᴰ y (inner e) → T (compressed cs es y)
+  chain-inner e = all-through es (compressed cs es) (goes-between e .0)
 
   -- where there are any, the first edge ends at a compressed component
-  pub chain-enters : (e : Edge) (y : ℕ) → List·Memᴰ y (between e) → T (compressed cs es (sinkOf e))
+  pub chain-enters : (e : Edge) (y : ℕ) → List·Memᴰ y (inner e) → T (compressed cs es (sinkOf e))
   chain-enters e = enters es (compressed cs es) (goes-between e .0)
 
   -- every two neighbours of a chain are joined by an edge
@@ -185,27 +185,27 @@ module _ (cs : List Component) (es : List Edge) where
   chain-edges (a ⟶ b) m = rw (chain-parts (a ⟶ b)) (all-joined es (compressed cs es) compressed-in compressed-out (goes-between (a ⟶ b) .0) a m)
 
   -- an edge ends at each component after the first
-  pub chain-into : (e : Edge) → List·Memᴰ e es → (y : ℕ) → List·Memᴰ y (between e ++ (lastOf (chainFrom cs es e) ∷ [])) → List·Memᴰ y (map sinkOf es)
+  pub chain-into : (e : Edge) → List·Memᴰ e es → (y : ℕ) → List·Memᴰ y (inner e ++ (lastOf (chainFrom cs es e) ∷ [])) → List·Memᴰ y (map sinkOf es)
   chain-into e m = joined-into (subst (Joined es) (chain-parts e) (chain-edges e m))
 
-  pub between-once : (e : Edge) → List·Memᴰ e es → (T (compressed cs es (sourceOf e)) → ⊥) → Distinct (between e)
-  between-once e m kept = all-once es (compressed cs es) compressed-in compressed-out m kept (goes-between e .0) (first refl)
+  pub inner-once : (e : Edge) → List·Memᴰ e es → (T (compressed cs es (sourceOf e)) → ⊥) → Distinct (inner e)
+  inner-once e m kept = all-once es (compressed cs es) compressed-in compressed-out m kept (goes-between e .0) (first refl)
 
   -- no component stands twice before the last
   pub chain-once : (e : Edge) → List·Memᴰ e es → (T (compressed cs es (sourceOf e)) → ⊥) → Distinct (beforeLast (chainFrom cs es e))
-  chain-once e m kept = rw (chain-before e) (λ n. kept (chain-between e (sourceOf e) n), between-once e m kept)
+  chain-once e m kept = rw (chain-before e) (λ n. kept (chain-inner e (sourceOf e) n), inner-once e m kept)
 
   -- chains with a component in common between their ends begin with the same edge
   pub chain-apart : (e f : Edge) → List·Memᴰ e es → List·Memᴰ f es → (T (compressed cs es (sourceOf e)) → ⊥) → (T (compressed cs es (sourceOf f)) → ⊥)
-      → (y : ℕ) → List·Memᴰ y (between e) → List·Memᴰ y (between f) → e ≡ f
+      → (y : ℕ) → List·Memᴰ y (inner e) → List·Memᴰ y (inner f) → e ≡ f
   chain-apart e f m n a b y i j =
-      met-once es (compressed cs es) compressed-in compressed-out m n a b (chain-between e y i) (all-met es (compressed cs es) (goes-between e .0) (first refl) y i .1) (all-met es (compressed cs es) (goes-between f .0) (first refl) y j .1) .0
+      met-once es (compressed cs es) compressed-in compressed-out m n a b (chain-inner e y i) (all-met es (compressed cs es) (goes-between e .0) (first refl) y i .1) (all-met es (compressed cs es) (goes-between f .0) (first refl) y j .1) .0
 
   -- the walk does not stop for lack of steps: the last component is retained
   pub chain-ends : (e : Edge) → List·Memᴰ e es → (T (compressed cs es (sourceOf e)) → ⊥) → T (compressed cs es (lastOf (chainFrom cs es e))) → ⊥
   chain-ends e m kept t =
-      omega (arith, used es (compressed cs es) (goes-between e .0) t, pigeon (sourceOf e ∷ between e) (map sourceOf es) (subst Distinct (chain-before e) (chain-once e m kept)) leaves, length-map es sourceOf)
+      omega (arith, used es (compressed cs es) (goes-between e .0) t, pigeon (sourceOf e ∷ inner e) (map sourceOf es) (subst Distinct (chain-before e) (chain-once e m kept)) leaves, length-map es sourceOf)
     where
-      leaves : (y : ℕ) → List·Memᴰ y (sourceOf e ∷ between e) → List·Memᴰ y (map sourceOf es)
+      leaves : (y : ℕ) → List·Memᴰ y (sourceOf e ∷ inner e) → List·Memᴰ y (map sourceOf es)
       leaves y n =
-          ⊎-elim (λ p. Memᴰ·cast p (Memᴰ·map sourceOf m)) (λ k. Memᴰ·map sourceOf (next-edge es y (compressed-out y (chain-between e y k)))) (List·Memᴰ·cases-cons n)
+          ⊎-elim (λ p. Memᴰ·cast p (Memᴰ·map sourceOf m)) (λ k. Memᴰ·map sourceOf (next-edge es y (compressed-out y (chain-inner e y k)))) (List·Memᴰ·cases-cons n)

@@ -11,7 +11,7 @@ use lib.ListN.{length, getD, length-map}
 use Rattle.rules.specs.Lists.{any, keep}
 use Rattle.rules.specs.Delay.{cap, saturatingAdd}
 use Rattle.rules.specs.Kinds.{kindTable, kindRow, conductor, delayBy, componentDelay}
-use Rattle.rules.specs.Scene.{EndsListed, Component, idOf, hasId, byId, delayOf, delayAt}
+use Rattle.rules.specs.Scene.{Component, idOf, hasId, byId, delayOf, delayAt}
 use Rattle.rules.specs.Graph.{Edge, _⟶_}
 use Rattle.rules.specs.Paths.{delaySum, total, PathTo, only, then}
 use Rattle.rules.specs.declared.kinds.KindDelay.{KindDelay}
@@ -20,6 +20,7 @@ use Rattle.rules.specs.declared.kinds.KindRow.{KindRow}
 use Rattle.rules.proofs.Lists.{any-in}
 use Rattle.rules.proofs.Distinct.{pigeon}
 use Rattle.rules.proofs.Paths.{before, path-distinct}
+use Rattle.rules.proofs.Scenes.{EndsListed}
 
 -- a sum stops where the plain sum is above the cap, and nowhere else
 pub capped-total : (d : ℕ → ℕ) (p : List ℕ) → delaySum d p ≡ min cap (total d p)

@@ -6,17 +6,18 @@ use Prim.Native.Nat.{ℕ, zero, suc, _+_, _*_, _≤_, zero-le}
 use native.Mathlib.Omega.{arith}
 use lib.Dec.{T, T-not, not-T, eqb→eq, eqb-refl}
 use lib.ListN.{length, length-append, length-map}
-use Rattle.rules.specs.Lists.{keep, count, Distinct}
+use Rattle.rules.specs.Lists.{keep, count}
 use Rattle.rules.specs.Graph.{Edge, sourceOf, sinkOf, startsAt, endsAt, inCount, outCount}
-use Rattle.rules.specs.Scene.{Component, idOf, DistinctIds, delayAt, risingIds}
+use Rattle.rules.specs.Scene.{Component, idOf, delayAt, risingIds}
 use Rattle.rules.specs.Projection.{compressed, marks, retained, firstEdges, next, chain, chainFrom, lastOf, invertsAt, projectedBy, projectedAlong, projected, pathIds}
 use Rattle.rules.proofs.Lists.{and-both, keep-in, keep-out, flat-out}
-use Rattle.rules.proofs.Distinct.{pigeon}
+use Rattle.rules.proofs.Distinct.{pigeon, Distinct}
 use Rattle.rules.proofs.Permutations.{perm-mem, perm-length, perm-keep, keep-length, one-same, perm-map, perm-flat, flat-order}
 use Rattle.rules.proofs.Counts.{count-append, count-every, count-keep, count-under, count-split, Once, distinct-keep, distinct-flat}
 use Rattle.rules.proofs.Sorting.{rising-ids-perm, rising-ids-distinct}
 use Rattle.laws.proofs.Order.{in-order, out-order}
-use Rattle.laws.proofs.Chains.{between, compressed-in, compressed-out, chain-length, chain-enters, between-once, chain-apart, chain-into, chain-ends}
+use Rattle.laws.proofs.Chains.{inner, compressed-in, compressed-out, chain-length, chain-enters, inner-once, chain-apart, chain-into, chain-ends}
+use Rattle.rules.proofs.Scenes.{DistinctIds}
 
 -- The order of the edges changes only the order of the first edges and of the projected edges
 
@@ -113,7 +114,7 @@ module _ (cs : List Component) (es : List Edge) where
   pub first-kept : (e : Edge) → List·Memᴰ e (firstEdges cs es) → T (compressed cs es (sourceOf e)) → ⊥
   first-kept e m = retained-out (sourceOf e) (first-edges-out e m .1)
 
-  path-ids-parts : (fs : List Edge) → length (pathIds (map (projectedAlong cs es) fs)) ≡ 2 * length fs + length (flatMap (between cs es) fs)
+  path-ids-parts : (fs : List Edge) → length (pathIds (map (projectedAlong cs es) fs)) ≡ 2 * length fs + length (flatMap (inner cs es) fs)
   unfolding pathIds flatMap projectedAlong projectedBy
   path-ids-parts [] = refl
   path-ids-parts (e ∷ fs) = omega (
@@ -121,7 +122,7 @@ module _ (cs : List Component) (es : List Edge) where
     length-append (chainFrom cs es e) (pathIds (map (projectedAlong cs es) fs)),
     chain-length cs es e,
     path-ids-parts fs,
-    length-append (between cs es e) (flatMap (between cs es) fs),
+    length-append (inner cs es e) (flatMap (inner cs es) fs),
   )
 
   module _ (distinct : DistinctIds cs) where
@@ -140,13 +141,13 @@ module _ (cs : List Component) (es : List Edge) where
     projected-count = omega (arith, length-map (firstEdges cs es) (projectedAlong cs es), count-every (firstEdges cs es), first-edges-count (λ e. true), count-every es)
 
     -- no component is between the ends twice, over all chains
-    pub betweens-once : Distinct (flatMap (between cs es) (firstEdges cs es))
+    pub inners-once : Distinct (flatMap (inner cs es) (firstEdges cs es))
     unfolding inCount
-    betweens-once =
-        distinct-flat (between cs es) (firstEdges cs es) once (λ e m. between-once cs es e (first-edges-out e m .0) (first-kept e m))
+    inners-once =
+        distinct-flat (inner cs es) (firstEdges cs es) once (λ e m. inner-once cs es e (first-edges-out e m .0) (first-kept e m))
         (λ e f y m n. chain-apart cs es e f (first-edges-out e m .0) (first-edges-out f n .0) (first-kept e m) (first-kept f n) y)
       where
-        once : (e : Edge) (y : ℕ) → List·Memᴰ e (firstEdges cs es) → List·Memᴰ y (between cs es e) → Once e (firstEdges cs es)
+        once : (e : Edge) (y : ℕ) → List·Memᴰ e (firstEdges cs es) → List·Memᴰ y (inner cs es e) → Once e (firstEdges cs es)
         once e y m n = (endsAt (sinkOf e), eqb-refl (sinkOf e), omega (arith, first-edges-count (endsAt (sinkOf e)), single))
           where
             single : count (endsAt (sinkOf e)) es ≡ 1
@@ -154,7 +155,7 @@ module _ (cs : List Component) (es : List Edge) where
 
   -- every edge ends at a component
   module _ (known : (e : Edge) → List·Memᴰ e es → List·Memᴰ (sinkOf e) (map idOf cs)) where
-    pub chain-ids : (e : Edge) → List·Memᴰ e es → (y : ℕ) → List·Memᴰ y (between cs es e ++ (lastOf (chainFrom cs es e) ∷ [])) → List·Memᴰ y (map idOf cs)
+    pub chain-ids : (e : Edge) → List·Memᴰ e es → (y : ℕ) → List·Memᴰ y (inner cs es e ++ (lastOf (chainFrom cs es e) ∷ [])) → List·Memᴰ y (map idOf cs)
     chain-ids e m y n = let r = Memᴰ·of-map sinkOf es (chain-into cs es e m y n) in Memᴰ·cast (sym (r .2)) (known (r .0) (r .1))
 
     -- the paths of all projected edges have at most two ids for each edge and one for each component
@@ -165,12 +166,12 @@ module _ (cs : List Component) (es : List Edge) where
       path-ids-parts (firstEdges cs es),
       projected-count distinct,
       length-map (firstEdges cs es) (projectedAlong cs es),
-      pigeon (flatMap (between cs es) (firstEdges cs es)) (map idOf cs) (betweens-once distinct) ids,
+      pigeon (flatMap (inner cs es) (firstEdges cs es)) (map idOf cs) (inners-once distinct) ids,
       length-map cs idOf,
     )
       where
-        ids : (y : ℕ) → List·Memᴰ y (flatMap (between cs es) (firstEdges cs es)) → List·Memᴰ y (map idOf cs)
-        ids y m = let r = flat-out (between cs es) (firstEdges cs es) m in chain-ids (r .0) (first-edges-out (r .0) (r .1) .0) y (Memᴰ·append-left _ (r .2))
+        ids : (y : ℕ) → List·Memᴰ y (flatMap (inner cs es) (firstEdges cs es)) → List·Memᴰ y (map idOf cs)
+        ids y m = let r = flat-out (inner cs es) (firstEdges cs es) m in chain-ids (r .0) (first-edges-out (r .0) (r .1) .0) y (Memᴰ·append-left _ (r .2))
 
     -- a projected edge ends at a retained component
     pub ends-retained : (e : Edge) → List·Memᴰ e (firstEdges cs es) → List·Memᴰ (lastOf (chainFrom cs es e)) (retained cs es)
@@ -178,5 +179,5 @@ module _ (cs : List Component) (es : List Edge) where
     ends-retained e m =
         let k = first-edges-out e m .0 in
         let w = lastOf (chainFrom cs es e) in
-        keep-in (λ v. not (compressed cs es v)) (perm-mem (rising-ids-perm cs) w (chain-ids e k w (Memᴰ·append-right (between cs es e) (List·Memᴰ·head refl))))
+        keep-in (λ v. not (compressed cs es v)) (perm-mem (rising-ids-perm cs) w (chain-ids e k w (Memᴰ·append-right (inner cs es e) (List·Memᴰ·head refl))))
         (not-T (compressed cs es w) (chain-ends cs es e k (first-kept e m)))

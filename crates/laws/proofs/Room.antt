@@ -10,7 +10,7 @@ use lib.ListN.{length, length-map, length-append}
 use Rattle.rules.specs.Lists.{keep}
 use Rattle.rules.specs.Delay.{cap}
 use Rattle.rules.specs.Kinds.{isDevice, repeaterCode, comparatorCode, pistonCode}
-use Rattle.rules.specs.Scene.{EndsListed, Component, Connection, ComponentLists, ConnectionLists, componentsOf, connectionsOf, DistinctIds, idOf, isEdge, edgeOf, edgesOf, rowOf, delayAt, risingIds}
+use Rattle.rules.specs.Scene.{Component, Connection, ComponentLists, ConnectionLists, componentsOf, connectionsOf, idOf, isEdge, edgeOf, edgesOf, rowOf, delayAt, risingIds}
 use Rattle.rules.specs.Graph.{Edge, sinkOf, stronglyConnected}
 use Rattle.rules.specs.Paths.{delaySum, total, PathTo}
 use Rattle.rules.specs.Reasons.{statefulOrMechanicalDevice, lockedRepeater, inFeedback, feedback, feedbackReason, ownReason, unequalAt, unequalReason, unequalReasonsBy, unequalReasons, temporalReasons, reasons}
@@ -27,6 +27,7 @@ use Rattle.rules.proofs.Acceptance.{AcceptedScene, accepted→, accepted-ids, c
 use Rattle.laws.proofs.PlainSums.{capped-total, path-plain, total-bound, delay-bound}
 use Rattle.laws.proofs.Chains.{chain-before, chain-once}
 use Rattle.laws.proofs.Projection.{first-edges-out, first-kept, chain-ids, projected-count, path-ids-count}
+use Rattle.rules.proofs.Scenes.{EndsListed, DistinctIds}
 
 keep-fewer : {A : Type 0} (f : A → Bool) (l : List A) → length (keep f l) ≤ length l
 keep-fewer f l = omega (arith, keep-length f l, count-under f (λ x. true) l (λ x m t. tt), count-every l)

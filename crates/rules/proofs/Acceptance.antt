@@ -7,9 +7,9 @@ use Prim.Native.Nat.{ℕ, suc, _≤_, _<_}
 use native.Mathlib.Omega.{arith}
 use lib.Dec.{T, T-not, not-T, eqb, ltb, eqb→eq, eqb-refl, nltb→le}
 use lib.ListN.{length, getD, take}
-use Rattle.rules.specs.Lists.{any, keep, count, indices, Distinct}
+use Rattle.rules.specs.Lists.{any, keep, count, indices}
 use Rattle.rules.specs.Graph.{sourceOf, sinkOf}
-use Rattle.rules.specs.Scene.{EndsListed, Component, Connection, ComponentLists, ConnectionLists, componentAt, connectionAt, componentsOf, connectionsOf, isEdge, edgeOf, edgesOf, idOf, hasId, DistinctIds}
+use Rattle.rules.specs.Scene.{Component, Connection, ComponentLists, ConnectionLists, componentAt, connectionAt, componentsOf, connectionsOf, isEdge, edgeOf, edgesOf, idOf, hasId}
 use Rattle.rules.specs.Refusals.{Test, SceneLimits, Output, lengthsDiffer, componentLengths, connectionLengths, outputTest, outOfRange, usedEarlier, componentTests, badTransfer, endMissing, connectionTests, sizeTests, sceneTests, checkScene}
 use Rattle.rules.specs.declared.answers.Checked.the-variants.{Accepted}
 use Rattle.rules.proofs.Counts.{count-none}
@@ -17,6 +17,8 @@ use Rattle.rules.proofs.Lists.{or-cases, and-left, and-right, eq-test, 
 use Rattle.rules.proofs.Permutations.{perm-mem, perm-length, perm-keep, perm-map}
 use Rattle.rules.proofs.Indices.{indices-below, below-indices, made-length, column, distinct-if, distinct-before}
 use Rattle.rules.proofs.FirstRefusal.{NoneHold, within, none-nil, none-cons, none-append, none-map, none-flat, none-parts, none-each, none-holds, accepted-if}
+use Rattle.rules.proofs.Distinct.{Distinct}
+use Rattle.rules.proofs.Scenes.{EndsListed, DistinctIds}
 
 -- the ids of the components are the lent ids, and there are as many components
 pub component-ids : (l : ComponentLists) → map idOf (componentsOf l) ≡ l .ids

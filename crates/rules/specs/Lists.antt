@@ -1,7 +1,7 @@
 -- Words about lists that the rules are written with. Assumes nothing: these are definitions.
 use mathlib.Core.Bool.{Bool, true, false, not, cond, _||_}
-use mathlib.Core.List.{List, [], _∷_, _++_, List·Memᴰ}
-use Prim.Native.Nat.{ℕ, zero, suc, _+_, _≤_}
+use mathlib.Core.List.{List, [], _∷_, _++_}
+use Prim.Native.Nat.{ℕ, zero, suc, _+_}
 use lib.Dec.{leb, eqb}
 use lib.ListN.{length, take, drop}
 
@@ -25,11 +25,6 @@ module _ {A : Type 0} where
   unfoldable pub count : (A → Bool) → List A → ℕ
   count f [] = 0
   count f (x ∷ xs) = let r = count f xs in cond (f x) (suc r) r
-
-  -- no entry stands twice (for the laws)
-  abbrev pub Distinct : List A → Type 0
-  Distinct [] = Unit {0}
-  Distinct (x ∷ l) = (List·Memᴰ x l → ⊥) × Distinct l
 
   -- a lent list after new entries were written to it from a place on: the others keep their values
   unfoldable pub writtenFrom : ℕ → List A → List A → List A
@@ -57,11 +52,6 @@ insert x (y ∷ ys) = let r = insert x ys in cond (leb x y) (x ∷ y ∷ ys) (y 
 unfoldable pub rising : List ℕ → List ℕ
 rising [] = []
 rising (x ∷ xs) = insert x (rising xs)
-
--- no number is above a later one (for the laws)
-abbrev pub Rising : List ℕ → Type 0
-Rising [] = Unit {0}
-Rising (x ∷ l) = ((y : ℕ) → List·Memᴰ y l → x ≤ y) × Rising l
 
 -- each number of the list once, in its first place
 unfoldable pub once : List ℕ → List ℕ

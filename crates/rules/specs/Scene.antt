@@ -1,13 +1,13 @@
 -- The scene: components, connections, edges, and what a component is by its id. Assumes nothing: these are definitions.
 use mathlib.Core.Bool.{Bool, not, _&&_}
-use mathlib.Core.List.{List, map, List·Memᴰ}
-use Prim.Native.Nat.{ℕ, _≤_}
+use mathlib.Core.List.{List, map}
+use Prim.Native.Nat.{ℕ}
 use lib.Dec.{eqb}
 use lib.IntN.{ℤ, pos}
 use lib.ListN.{length, getD}
-use Rattle.rules.specs.Lists.{keep, count, indices, rising}
+use Rattle.rules.specs.Lists.{keep, indices, rising}
 use Rattle.rules.specs.Kinds.{kindRow, conductor, componentDelay}
-use Rattle.rules.specs.Graph.{Edge, _⟶_, sourceOf, sinkOf}
+use Rattle.rules.specs.Graph.{Edge, _⟶_}
 use Rattle.rules.specs.declared.kinds.KindRow.{KindRow}
 
 -- "A component has an id (64 bits), a kind code, a delay word (0 to 255, or 256 for absent), a locked flag (0 or 1; 1 means
@@ -95,14 +95,6 @@ hasId v c = eqb (c .id) v
 -- the ids of the components, "by rising id"
 unfoldable pub risingIds : List Component → List ℕ
 risingIds cs = rising (map idOf cs)
-
--- no id stands twice (for the laws)
-abbrev pub DistinctIds : List Component → Type 0
-DistinctIds cs = (v : ℕ) → count (hasId v) cs ≤ 1
-
--- every end of every edge is the id of a component (for the laws)
-abbrev pub EndsListed : List Component → List Edge → Type 0
-EndsListed cs es = (e : Edge) → List·Memᴰ e es → List·Memᴰ (sourceOf e) (map idOf cs) × List·Memᴰ (sinkOf e) (map idOf cs)
 
 -- "Two components, or two connections, are the same if they are equal in every field."
 abbrev pub sameConnection : Connection → Connection → Bool
