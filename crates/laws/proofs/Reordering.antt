@@ -17,7 +17,8 @@ use Rattle.rules.specs.Labels.{labels}
 use Rattle.rules.proofs.Lists.{tests, and-left, and-right}
 use Rattle.rules.proofs.Permutations.{perm-count, perm-length, perm-map, perm-keep}
 use Rattle.rules.proofs.EquallyOften.{often→perm}
-use Rattle.rules.proofs.Acceptance.{ConnectionsAligned, acceptance-order, edges-order}
+use Rattle.rules.proofs.Columns.{ConnectionsAligned}
+use Rattle.rules.proofs.Acceptance.{acceptance-order, edges-order}
 use Rattle.laws.proofs.Order.{feedback-order, reasons-order, scope-order, pattern-order, labels-order}
 use Rattle.laws.proofs.Projection.{compressed-order, marks-order, projected-order, projected-length-order, path-ids-length-order}
 use Rattle.laws.proofs.StoredEdges.{EdgeLists, storedEdges, stored-back}

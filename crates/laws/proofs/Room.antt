@@ -1,19 +1,18 @@
 -- Every list of an accepted scene fits the length that it needs, and projected delays are plain sums. Assumes nothing.
-use mathlib.Core.Bool.{Bool, true, false, cond, _&&_, _||_}
+use mathlib.Core.Bool.{Bool, true}
 use mathlib.Core.List.{List, [], _∷_, _++_, map, flatMap, List·Memᴰ, List·Memᴰ·cases-cons, Memᴰ·cast, Memᴰ·append-left}
-use mathlib.Core.Path.{_≡_, subst, _∙_}
+use mathlib.Core.Path.{_≡_, ap, subst, _∙_}
 use mathlib.Core.Logic.{⊎-elim}
 use Prim.Native.Nat.{ℕ, _+_, _-_, _*_, _≤_}
 use native.Mathlib.Omega.{arith}
-use lib.Dec.{eqb}
 use lib.ListN.{length, length-map, length-append}
 use Rattle.rules.specs.Lists.{keep}
 use Rattle.rules.specs.Delay.{cap}
-use Rattle.rules.specs.Kinds.{isDevice, repeaterCode, comparatorCode, pistonCode}
+use Rattle.rules.specs.Kinds.{isDevice}
 use Rattle.rules.specs.Scene.{Component, Connection, ComponentLists, ConnectionLists, componentsOf, connectionsOf, idOf, isEdge, edgeOf, edgesOf, rowOf, delayAt, risingIds}
 use Rattle.rules.specs.Graph.{Edge, sinkOf, stronglyConnected}
 use Rattle.rules.specs.Paths.{delaySum, total, PathTo}
-use Rattle.rules.specs.Reasons.{statefulOrMechanicalDevice, lockedRepeater, inFeedback, feedback, feedbackReason, ownReason, unequalAt, unequalReason, unequalReasonsBy, unequalReasons, temporalReasons, reasons}
+use Rattle.rules.specs.Reasons.{inFeedback, feedback, feedbackReason, ownReason, unequalAt, unequalReason, unequalReasonsBy, unequalReasons, temporalReasons, reasons}
 use Rattle.rules.specs.Projection.{marks, firstEdges, chainFrom, beforeLast, projected, pathIds}
 use Rattle.rules.specs.Refusals.{SceneLimits, Output, sceneLimits, checkScene}
 use Rattle.rules.specs.Describe.{timedEdge, timedEdges, temporalDevice, deviceComponents, devices, connectionEvidence, deviceEvidence, evidence}
@@ -22,8 +21,10 @@ use Rattle.rules.specs.Labels.{label, labels}
 use Rattle.rules.proofs.Distinct.{pigeon}
 use Rattle.rules.proofs.Permutations.{keep-length, perm-length}
 use Rattle.rules.proofs.Counts.{count-under, count-every}
+use Rattle.rules.proofs.ReasonLaws.{own-cases}
 use Rattle.rules.proofs.Sorting.{rising-ids-perm}
-use Rattle.rules.proofs.Acceptance.{AcceptedScene, accepted→, accepted-ids, components-length, connections-length, edge-ends}
+use Rattle.rules.proofs.Columns.{components-length, connections-length}
+use Rattle.rules.proofs.Acceptance.{AcceptedScene, accepted→, accepted-ids, edge-ends}
 use Rattle.laws.proofs.PlainSums.{capped-total, path-plain, total-bound, delay-bound}
 use Rattle.laws.proofs.Chains.{chain-before, chain-once}
 use Rattle.laws.proofs.Projection.{first-edges-out, first-kept, chain-ids, projected-count, path-ids-count}
@@ -63,13 +64,7 @@ module _ (cs : List Component) (ns : List Connection) where
 
 module _ (cs : List Component) (es : List Edge) where
   own-one : (c : Component) → length (ownReason c) ≤ 1
-  unfolding ownReason
-  own-one c = go (eqb (c .kind) comparatorCode || eqb (c .kind) pistonCode) (eqb (c .kind) repeaterCode && eqb (c .locked) 1)
-    where
-      go : (a b : Bool) → length (cond a (statefulOrMechanicalDevice (c .id) (c .kind) ∷ []) (cond b (lockedRepeater (c .id) ∷ []) [])) ≤ 1
-      go true b = omega arith
-      go false true = omega arith
-      go false false = omega arith
+  own-one c = ⊎-elim (λ e. omega (arith, ap length e)) (λ k. omega (arith, ap length (k .1))) (own-cases c)
 
   own-fit : (l : List Component) → length (flatMap ownReason l) ≤ length l
   unfolding flatMap

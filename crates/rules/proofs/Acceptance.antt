@@ -15,42 +15,11 @@ use Rattle.rules.specs.declared.answers.Checked.the-variants.{Accepted}
 use Rattle.rules.proofs.Counts.{count-none}
 use Rattle.rules.proofs.Lists.{or-cases, and-left, and-right, eq-test, tests, any-in, any-out, keep-out}
 use Rattle.rules.proofs.Permutations.{perm-mem, perm-length, perm-keep, perm-map}
-use Rattle.rules.proofs.Indices.{indices-below, below-indices, made-length, column, distinct-if, distinct-before}
+use Rattle.rules.proofs.Indices.{indices-below, below-indices, distinct-if, distinct-before}
+use Rattle.rules.proofs.Columns.{ComponentsAligned, ConnectionsAligned, component-ids, connections-length}
 use Rattle.rules.proofs.FirstRefusal.{NoneHold, within, none-nil, none-cons, none-append, none-map, none-flat, none-parts, none-each, none-holds, accepted-if}
 use Rattle.rules.proofs.Distinct.{Distinct}
 use Rattle.rules.proofs.Scenes.{EndsListed, DistinctIds}
-
--- the ids of the components are the lent ids, and there are as many components
-pub component-ids : (l : ComponentLists) → map idOf (componentsOf l) ≡ l .ids
-unfolding componentsOf componentAt
-component-ids l = column idOf (componentAt l) (length (l .ids)) (l .ids) 0 refl (λ i. refl)
-
-pub components-length : (l : ComponentLists) → length (componentsOf l) ≡ length (l .ids)
-unfolding componentsOf
-components-length l = made-length (componentAt l) (length (l .ids))
-
--- the sources of the connections are the lent sources, and there are as many connections
-pub connection-sources : (m : ConnectionLists) → map (λ n. n .source) (connectionsOf m) ≡ m .sources
-unfolding connectionsOf connectionAt
-connection-sources m = column (λ n. n .source) (connectionAt m) (length (m .sources)) (m .sources) 0 refl (λ i. refl)
-
-pub connections-length : (m : ConnectionLists) → length (connectionsOf m) ≡ length (m .sources)
-unfolding connectionsOf
-connections-length m = made-length (connectionAt m) (length (m .sources))
-
--- the lists of the components have one length
-pub record ComponentsAligned (l : ComponentLists) : Type 0 where
-  pub kinds-length : length (l .kinds) ≡ length (l .ids)
-  pub delays-length : length (l .delays) ≡ length (l .ids)
-  pub locked-length : length (l .locked) ≡ length (l .ids)
-  pub xs-length : length (l .xs) ≡ length (l .ids)
-  pub ys-length : length (l .ys) ≡ length (l .ids)
-  pub zs-length : length (l .zs) ≡ length (l .ids)
-
--- and so have those of the connections
-pub record ConnectionsAligned (m : ConnectionLists) : Type 0 where
-  pub sinks-length : length (m .sinks) ≡ length (m .sources)
-  pub transfers-length : length (m .transfers) ≡ length (m .sources)
 
 -- every list of an output is as long as it has to be
 abbrev pub OutputLong : Output → Type 0

@@ -20,6 +20,22 @@ use Rattle.rules.proofs.Sums.{smaller, larger}
 use Rattle.rules.proofs.Ranges.{sum-is-extreme, extreme-is-sum}
 use Rattle.rules.proofs.Sorting.{rising-ids-perm}
 
+-- a component has no reason by itself, or one, which is no unequal delay
+pub own-cases : (c : Component) → (ownReason c ≡ []) ⊎ ((r : Reason) × (ownReason c ≡ r ∷ []) × (1 ≤ reasonKind r))
+unfolding ownReason
+own-cases c = go (eqb (c .kind) comparatorCode || eqb (c .kind) pistonCode) (eqb (c .kind) repeaterCode && eqb (c .locked) 1)
+  where
+    device : Reason
+    device = statefulOrMechanicalDevice (c .id) (c .kind)
+
+    locked : Reason
+    locked = lockedRepeater (c .id)
+
+    go : (a b : Bool) → (cond a (device ∷ []) (cond b (locked ∷ []) []) ≡ []) ⊎ ((r : Reason) × (cond a (device ∷ []) (cond b (locked ∷ []) []) ≡ r ∷ []) × (1 ≤ reasonKind r))
+    go true b = inr (device, refl, omega arith)
+    go false true = inr (locked, refl, omega arith)
+    go false false = inl refl
+
 module _ (cs : List Component) (es : List Edge) where
   -- a component passes the Feedback test exactly if it is on feedback
   pub feedback→ : (c : Component) → T (inFeedback cs (stronglyConnected es) c) → OnFeedback cs es c
@@ -60,15 +76,11 @@ module _ (cs : List Component) (es : List Edge) where
   unfolding feedback
   →listed-feedback c m o = Memᴰ·map idOf (keep-in (inFeedback cs (stronglyConnected es)) m (→feedback c o))
 
-  -- the first three kinds of reason are no unequal delays
   own-kind : (c : Component) (r : Reason) → List·Memᴰ r (ownReason c) → 1 ≤ reasonKind r
-  unfolding ownReason
-  own-kind c r m = go (eqb (c .kind) comparatorCode || eqb (c .kind) pistonCode) (eqb (c .kind) repeaterCode && eqb (c .locked) 1) m
-    where
-      go : (a b : Bool) → List·Memᴰ r (cond a (statefulOrMechanicalDevice (c .id) (c .kind) ∷ []) (cond b (lockedRepeater (c .id) ∷ []) [])) → 1 ≤ reasonKind r
-      go true b n = subst (λ x. 1 ≤ reasonKind x) (sym (List·Memᴰ·eq-of-singleton n)) (omega arith)
-      go false true n = subst (λ x. 1 ≤ reasonKind x) (sym (List·Memᴰ·eq-of-singleton n)) (omega arith)
-      go false false n = absurd (List·Memᴰ·not-nil n)
+  own-kind c r m = ⊎-elim
+      (λ e. absurd (List·Memᴰ·not-nil (subst (List·Memᴰ r) e m)))
+      (λ k. subst (λ x. 1 ≤ reasonKind x) (sym (List·Memᴰ·eq-of-singleton (subst (List·Memᴰ r) (k .1) m))) (k .2))
+      (own-cases c)
 
   loop-kind : (l : List ℕ) (r : Reason) → List·Memᴰ r (feedbackReason l) → 1 ≤ reasonKind r
   unfolding feedbackReason

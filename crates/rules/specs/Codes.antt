@@ -14,8 +14,6 @@ use Rattle.rules.specs.declared.transient.PulsePolarity.{PulsePolarity}
 use Rattle.rules.specs.declared.transient.PulsePolarity.the-variants.{High, Low}
 use Rattle.rules.specs.declared.transient.TraceTimeUnit.{TraceTimeUnit}
 use Rattle.rules.specs.declared.transient.TraceTimeUnit.the-variants.{RedstoneTick, GameTick}
-use Rattle.rules.specs.declared.transient.SignalIntent.{SignalIntent}
-use Rattle.rules.specs.declared.transient.SignalIntent.the-variants as Intent
 use Rattle.rules.specs.declared.transient.TransientVerdict.{TransientVerdict}
 use Rattle.rules.specs.declared.transient.TransientVerdict.the-variants.{PulseObserved, TransientDeviation, HazardCandidate, HazardConfirmed, IntentionalPulse}
 
@@ -60,13 +58,6 @@ unitCode GameTick = 1
 
 abbrev pub unitOf : ℕ → TraceTimeUnit
 unitOf code = cond (eqb code 0) RedstoneTick GameTick
-
--- "Intents and what they use: 0 SteadyStateOnly, 1 Stable .., 2 IntentionalPulse .., 3 MaximumPulseWidth .."
-abbrev pub intentCode : SignalIntent → ℕ
-intentCode Intent.SteadyStateOnly = 0
-intentCode (Intent.Stable wanted) = 1
-intentCode (Intent.IntentionalPulse polarity unit smallest largest) = 2
-intentCode (Intent.MaximumPulseWidth polarity unit largest) = 3
 
 abbrev pub verdictCode : TransientVerdict → ℕ
 verdictCode PulseObserved = 0
