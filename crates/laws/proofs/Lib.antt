@@ -1,7 +1,9 @@
 -- Demand 3: what the order of the connections does not change, and what an unequal-delay reason says
 pub mod Reordering
 pub mod UnequalReasons
+pub mod BaseScenes
 -- that every list has room, and that sums do not meet their cap
+pub mod CallRoom
 pub mod Room
 pub mod PlainSums
 -- what these rest on

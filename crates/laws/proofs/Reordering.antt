@@ -1,8 +1,9 @@
 -- Demand 3, first half: what the order of the connections does not change. Assumes nothing.
 use mathlib.Core.Bool.{Bool}
 use mathlib.Core.List.{List, map, List·Permᴰ, Permᴰ·append-right}
-use mathlib.Core.Path.{_≡_, refl}
+use mathlib.Core.Path.{_≡_, refl, sym, _∙_}
 use Prim.Native.Nat.{ℕ}
+use lib.ListN.{length}
 use lib.Dec.{T, eqb, eqb→eq, eqb-refl}
 use Rattle.rules.specs.Lists.{count}
 use Rattle.rules.specs.Scene.{Component, Connection, Scene, ComponentLists, ConnectionLists, sceneOf, edges, isEdge, sameConnection, delayAt}
@@ -10,14 +11,14 @@ use Rattle.rules.specs.Graph.{Edge}
 use Rattle.rules.specs.Reasons.{feedback, reasons}
 use Rattle.rules.specs.Projection.{ProjectedEdge, marks, projected}
 use Rattle.rules.specs.Refusals.{SceneLimits, Output, checkScene}
-use Rattle.rules.specs.Describe.{TimedEdge, timedEdge, timedEdges, deviceComponents, devices, Evidence, evidence, connectionEvidence, deviceEvidence, description}
-use Rattle.rules.specs.Assess.{assessment}
+use Rattle.rules.specs.Describe.{TimedEdge, timedEdge, timedEdges, deviceComponents, devices, Evidence, evidence, connectionEvidence, deviceEvidence, description, describeOutputs, checkDescribe}
+use Rattle.rules.specs.Assess.{assessment, assessOutputs, checkAssess}
 use Rattle.rules.specs.declared.answers.Checked.the-variants.{Accepted}
 use Rattle.rules.specs.Labels.{labels}
 use Rattle.rules.proofs.Lists.{tests, and-left, and-right}
 use Rattle.rules.proofs.Permutations.{perm-count, perm-length, perm-map, perm-keep}
 use Rattle.rules.proofs.EquallyOften.{often→perm}
-use Rattle.rules.proofs.Columns.{ConnectionsAligned}
+use Rattle.rules.proofs.Columns.{ConnectionsAligned, connections-length}
 use Rattle.rules.proofs.Acceptance.{acceptance-order, edges-order}
 use Rattle.laws.proofs.Order.{feedback-order, reasons-order, scope-order, pattern-order, labels-order}
 use Rattle.laws.proofs.Projection.{compressed-order, marks-order, projected-order, projected-length-order, path-ids-length-order}
@@ -110,7 +111,20 @@ module _ (s t : Scene) (r : Reordered s t) where
         same-evidence = λ test. perm-count test (evidence-order cs perm);
       }
 
--- the one is accepted if the other is
-pub same-acceptance : (limits : SceneLimits) (l : ComponentLists) (m m′ : ConnectionLists) (outputs : List Output) → Reordered (sceneOf l m) (sceneOf l m′) → ConnectionsAligned m′
-    → checkScene limits l m outputs ≡ Accepted → checkScene limits l m′ outputs ≡ Accepted
-same-acceptance limits l m m′ outputs r aligned = acceptance-order limits l m m′ outputs (perm (sceneOf l m) (sceneOf l m′) r) aligned
+-- The one is accepted if the other is. `Reordered` reads the connection lists up to the length of the sources, so it is said that the
+-- three lists have one length
+module _ (limits : SceneLimits) (l : ComponentLists) (m m′ : ConnectionLists) (r : Reordered (sceneOf l m) (sceneOf l m′)) (aligned : ConnectionsAligned m′) where
+  pub same-acceptance : (outputs : List Output) → checkScene limits l m outputs ≡ Accepted → checkScene limits l m′ outputs ≡ Accepted
+  same-acceptance outputs = acceptance-order limits l m m′ outputs (perm (sceneOf l m) (sceneOf l m′) r) aligned
+
+  same-length : length (m .sources) ≡ length (m′ .sources)
+  same-length = sym (connections-length m) ∙ perm-length (perm (sceneOf l m) (sceneOf l m′) r) ∙ connections-length m′
+
+  -- by each of the two scene calls
+  pub same-describe : (l0 l1 l2 : List ℕ) → checkDescribe limits l m l0 l1 l2 ≡ Accepted → checkDescribe limits l m′ l0 l1 l2 ≡ Accepted
+  unfolding checkDescribe
+  same-describe l0 l1 l2 e = rw (← same-length) (same-acceptance (describeOutputs (length (l .ids)) (length (m .sources)) l0 l1 l2) e)
+
+  pub same-assess : (l3 l4 l5 l6 l7 l8 : List ℕ) → checkAssess limits l m l3 l4 l5 l6 l7 l8 ≡ Accepted → checkAssess limits l m′ l3 l4 l5 l6 l7 l8 ≡ Accepted
+  unfolding checkAssess
+  same-assess l3 l4 l5 l6 l7 l8 e = rw (← same-length) (same-acceptance (assessOutputs (length (l .ids)) (length (m .sources)) l3 l4 l5 l6 l7 l8) e)

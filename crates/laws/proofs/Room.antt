@@ -14,7 +14,7 @@ use Rattle.rules.specs.Graph.{Edge, sinkOf, stronglyConnected}
 use Rattle.rules.specs.Paths.{delaySum, total, PathTo}
 use Rattle.rules.specs.Reasons.{inFeedback, feedback, feedbackReason, ownReason, unequalAt, unequalReason, unequalReasonsBy, unequalReasons, temporalReasons, reasons}
 use Rattle.rules.specs.Projection.{marks, firstEdges, chainFrom, beforeLast, projected, pathIds}
-use Rattle.rules.specs.Refusals.{SceneLimits, Output, sceneLimits, checkScene}
+use Rattle.rules.specs.Refusals.{SceneLimits, Output, checkScene}
 use Rattle.rules.specs.Describe.{timedEdge, timedEdges, temporalDevice, deviceComponents, devices, connectionEvidence, deviceEvidence, evidence}
 use Rattle.rules.specs.declared.answers.Checked.the-variants.{Accepted}
 use Rattle.rules.specs.Labels.{label, labels}
@@ -165,7 +165,3 @@ module _ (limits : SceneLimits) (l : ComponentLists) (m : ConnectionLists) (outp
       → delaySum (delayAt components) (beforeLast (chainFrom components joins e)) ≡ total (delayAt components) (beforeLast (chainFrom components joins e))
   accepted-projected-plain h e n =
       projected-plain components joins (edge-ends facts) (accepted-ids facts) e n (omega (arith, facts .components-few, components-length l))
-
--- the base's limit leaves room for every sum
-pub base-room : sceneLimits .components * 255 ≤ cap
-base-room = omega arith

@@ -14,7 +14,7 @@ use Rattle.rules.proofs.ReasonLaws.{unequal→, →unequal}
 use Rattle.laws.proofs.Room.{accepted-path-plain}
 
 -- sums that agree on every path have the same extremes
-extreme-agrees : {Bounds : ℕ → ℕ → Type 0} {es : List Edge} {s t : List ℕ → ℕ} {v n : ℕ} → ((p : List ℕ) → PathTo es v p → s p ≡ t p) → IsExtreme Bounds es s v n → IsExtreme Bounds es t v n
+pub extreme-agrees : {Bounds : ℕ → ℕ → Type 0} {es : List Edge} {s t : List ℕ → ℕ} {v n : ℕ} → ((p : List ℕ) → PathTo es v p → s p ≡ t p) → IsExtreme Bounds es s v n → IsExtreme Bounds es t v n
 extreme-agrees {Bounds} {n = n} h x =
     record {
       path = x .path;
