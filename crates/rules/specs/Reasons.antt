@@ -47,7 +47,7 @@ inFeedback cs same c = not (passive (rowOf c .node)) && any (otherIn same (c .id
 unfoldable pub feedback : List Component → List Edge → List ℕ
 feedback cs es = map idOf (keep (inFeedback cs (stronglyConnected es)) cs)
 
--- A reason, with what it carries; the components of the Feedback reason are list 4's
+-- A reason, with what it carries; `feedbackLoop` is the Feedback reason, whose components are list 4's
 pub data Reason : Type 0 where
   unequalReconvergentDelay : (component minimum maximum : ℕ) → Reason
   feedbackLoop : Reason
