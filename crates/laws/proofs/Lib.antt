@@ -2,8 +2,11 @@
 pub mod Reordering
 pub mod UnequalReasons
 pub mod BaseScenes
+-- each projected edge and each reason, once and in order
+pub mod Entries
 -- that every list has room, and that sums do not meet their cap
 pub mod CallRoom
+pub mod TraceRoom
 pub mod Room
 pub mod PlainSums
 -- what these rest on

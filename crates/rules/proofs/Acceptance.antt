@@ -1,11 +1,10 @@
 -- What an accepted scene satisfies, and that the order of its connections does not matter to that. Assumes nothing.
-use mathlib.Core.Bool.{Bool, true, false, not, cond, _||_}
+use mathlib.Core.Bool.{Bool, true, false, not, cond}
 use mathlib.Core.List.{List, [], _∷_, _++_, map, flatMap, List·Memᴰ, List·Memᴰ·head, List·Memᴰ·tail, Memᴰ·map, Memᴰ·of-map, Memᴰ·cast, List·Permᴰ, Permᴰ·symm}
 use mathlib.Core.Path.{_≡_, refl, sym, subst, _∙_}
-use mathlib.Core.Logic.{⊎-elim}
 use Prim.Native.Nat.{ℕ, suc, _≤_, _<_}
 use native.Mathlib.Omega.{arith}
-use lib.Dec.{T, T-not, not-T, eqb, ltb, eqb→eq, eqb-refl, nltb→le}
+use lib.Dec.{T, T-not, eqb, ltb, eqb→eq, eqb-refl}
 use lib.ListN.{length, getD, take}
 use Rattle.rules.specs.Lists.{any, keep, count, indices}
 use Rattle.rules.specs.Graph.{sourceOf, sinkOf}
@@ -13,11 +12,11 @@ use Rattle.rules.specs.Scene.{Component, Connection, ComponentLists, Con
 use Rattle.rules.specs.Refusals.{Test, SceneLimits, Output, lengthsDiffer, componentLengths, connectionLengths, outputTest, outOfRange, usedEarlier, componentTests, badTransfer, endMissing, connectionTests, sizeTests, sceneTests, checkScene}
 use Rattle.rules.specs.declared.answers.Checked.the-variants.{Accepted}
 use Rattle.rules.proofs.Counts.{count-none}
-use Rattle.rules.proofs.Lists.{or-cases, and-left, and-right, eq-test, tests, any-in, any-out, keep-out}
+use Rattle.rules.proofs.Lists.{passes, or-none, and-left, and-right, tests, any-in, any-out, keep-out}
 use Rattle.rules.proofs.Permutations.{perm-mem, perm-length, perm-keep, perm-map}
 use Rattle.rules.proofs.Indices.{indices-below, below-indices, distinct-if, distinct-before}
 use Rattle.rules.proofs.Columns.{ComponentsAligned, ConnectionsAligned, component-ids, connections-length}
-use Rattle.rules.proofs.FirstRefusal.{NoneHold, within, none-nil, none-cons, none-append, none-map, none-flat, none-parts, none-each, none-holds, accepted-if}
+use Rattle.rules.proofs.FirstRefusal.{at-most, all-same, same-all, NoneHold, within, none-nil, none-cons, none-append, none-map, none-flat, none-parts, none-each, none-holds, accepted-if}
 use Rattle.rules.proofs.Distinct.{Distinct}
 use Rattle.rules.proofs.Scenes.{EndsListed, DistinctIds}
 
@@ -48,37 +47,12 @@ pub record AcceptedScene (limits : SceneLimits) (l : ComponentLists) (m : Connec
   pub ids-distinct : Distinct (l .ids)
   pub connections-fit : (n : Connection) → List·Memᴰ n (connectionsOf m) → ConnectionFits (l .ids) n
 
-passes : (b : Bool) → (T (not b) → ⊥) → T b
-passes true h = tt
-passes false h = h tt
-
-or-none : (a b : Bool) → (T a → ⊥) → (T b → ⊥) → T (a || b) → ⊥
-or-none a b g h t = ⊎-elim g h (or-cases a b t)
-
-at-most : (b n : ℕ) → (T (ltb b n) → ⊥) → n ≤ b
-at-most b n h = nltb→le b n (not-T (ltb b n) h)
-
 -- a number is in a list exactly where the test finds it
 listed : (v : ℕ) (l : List ℕ) → T (any (eqb v) l) → List·Memᴰ v l
 listed v l t = let r = any-out (eqb v) l t in Memᴰ·cast (eqb→eq v (r .0) (r .2)) (r .1)
 
 listed-test : (v : ℕ) {l : List ℕ} → List·Memᴰ v l → T (any (eqb v) l)
 listed-test v m = any-in (eqb v) m (eqb-refl v)
-
--- every number is n
-abbrev All : ℕ → List ℕ → Type 0
-All n [] = Unit {0}
-All n (k ∷ ns) = (k ≡ n) × All n ns
-
-all-same : (n : ℕ) (ns : List ℕ) → (T (lengthsDiffer (n ∷ ns)) → ⊥) → All n ns
-unfolding any
-all-same n [] h = tt
-all-same n (k ∷ ns) h = (eqb→eq k n (passes (eqb k n) (λ t. h (search tests))), all-same n ns (λ t. h (search tests)))
-
-same-all : (n : ℕ) (ns : List ℕ) → All n ns → T (lengthsDiffer (n ∷ ns)) → ⊥
-unfolding any
-same-all n [] a = λ t. t
-same-all n (k ∷ ns) a = or-none (not (eqb k n)) _ (λ t. T-not (eqb k n) t (eq-test (a .0))) (same-all n ns (a .1))
 
 -- Each test of a scene fails exactly where its fact holds
 module _ (l : ComponentLists) where

@@ -1,12 +1,12 @@
 -- How many entries of a list pass a test, and that no entry stands twice where a test counts it once. Assumes nothing.
-use mathlib.Core.Bool.{Bool, true, false, not, cond, _&&_}
+use mathlib.Core.Bool.{Bool, true, false, not, cond, _&&_, _||_}
 use mathlib.Core.List.{List, [], _∷_, _++_, map, flatMap, List·Memᴰ, List·Memᴰ·head, List·Memᴰ·tail, Memᴰ·cast}
 use mathlib.Core.Path.{_≡_, refl, ap, subst}
-use Prim.Native.Nat.{suc, _+_, _≤_, _<_, zero-le}
+use Prim.Native.Nat.{ℕ, suc, _+_, _≤_, _<_, zero-le}
 use native.Mathlib.Omega.{arith}
-use lib.Dec.{T}
+use lib.Dec.{T, T-not, eqb, eqb-refl}
 use lib.ListN.{length}
-use Rattle.rules.specs.Lists.{keep, count}
+use Rattle.rules.specs.Lists.{keep, count, once}
 use Rattle.rules.proofs.Lists.{chosen, keep-out, flat-out}
 use Rattle.rules.proofs.Distinct.{distinct-append, Distinct}
 
@@ -125,3 +125,23 @@ module _ {A B : Type 0} where
       let r = flat-out f l n in
       let e = apart x (r .0) z (List·Memᴰ·head refl) (List·Memᴰ·tail (r .1)) m (r .2) in
       once-out x l (once x z (List·Memᴰ·head refl) m) (Memᴰ·cast e (r .1)))
+
+-- entries that pass either of two tests that exclude each other
+pub count-or : {A : Type 0} (f g : A → Bool) (l : List A) → ((x : A) → T (f x) → T (g x) → ⊥) → count f l + count g l ≡ count (λ x. f x || g x) l
+unfolding count
+count-or f g [] h = refl
+count-or f g (x ∷ l) h = go (f x) (g x) (h x) (count-or f g l h)
+  where
+    go : (b c : Bool) → (T b → T c → ⊥) → count f l + count g l ≡ count (λ x. f x || g x) l
+        → cond b (suc (count f l)) (count f l) + cond c (suc (count g l)) (count g l) ≡ cond (b || c) (suc (count (λ x. f x || g x) l)) (count (λ x. f x || g x) l)
+    go true true k e = absurd (k tt tt)
+    go true false k e = omega arith
+    go false true k e = omega arith
+    go false false k e = e
+
+-- a number that is listed several times is kept once
+pub once-distinct : (l : List ℕ) → Distinct (once l)
+unfolding once
+once-distinct [] = tt
+once-distinct (x ∷ l) =
+    (λ m. T-not (eqb x x) (keep-out (λ y. not (eqb y x)) (once l) m .1) (eqb-refl x), distinct-keep (λ y. not (eqb y x)) (once l) (once-distinct l))

@@ -1,15 +1,16 @@
 -- The first test that holds decides, over any list of tests. Assumes nothing.
-use mathlib.Core.Bool.{Bool, true, false, cond}
+use mathlib.Core.Bool.{Bool, true, false, not, cond}
 use mathlib.Core.List.{List, [], _∷_, _++_, map, flatMap, List·Memᴰ, List·Memᴰ·head, List·Memᴰ·tail, List·Memᴰ·not-nil, List·Memᴰ·cases-cons, List·Memᴰ·append-cases, Memᴰ·append-left, Memᴰ·append-right, Memᴰ·of-map}
 use mathlib.Core.Path.{_≡_, refl, sym, ap, subst, _∙_}
 use mathlib.Core.Logic.{_⊎_, inl, inr, ⊎-elim}
 use Prim.Native.Nat.{ℕ, _≤_}
 use native.Mathlib.Omega.{arith}
-use lib.Dec.{T, ltb, ltb→lt, lt→ltb}
-use Rattle.rules.specs.Refusals.{Test, test, firstRefusal}
+use lib.Dec.{T, T-not, not-T, eqb, eqb→eq, ltb, ltb→lt, lt→ltb, nltb→le}
+use Rattle.rules.specs.Lists.{any}
+use Rattle.rules.specs.Refusals.{Test, test, firstRefusal, lengthsDiffer}
 use Rattle.rules.specs.declared.answers.Checked.{Checked}
 use Rattle.rules.specs.declared.answers.Checked.the-variants.{Accepted, Refused}
-use Rattle.rules.proofs.Lists.{flat-in, flat-out}
+use Rattle.rules.proofs.Lists.{tests, passes, or-none, eq-test, flat-in, flat-out}
 
 -- no test of the list holds
 abbrev pub NoneHold : List Test → Type 0
@@ -153,3 +154,21 @@ pub refused-holds : (ts : List Test) {n p : ℕ} → firstRefusal ts ≡ Refused
 refused-holds ts e =
     let f = refused-first ts e in
     (f .found, subst (List·Memᴰ (f .found)) (sym (f .split)) (Memᴰ·append-right (f .before) (List·Memᴰ·head refl)), f .found-holds, f .found-number, f .found-place)
+
+pub at-most : (b n : ℕ) → (T (ltb b n) → ⊥) → n ≤ b
+at-most b n h = nltb→le b n (not-T (ltb b n) h)
+
+-- the lengths of one record kind differ, or all are the first one
+abbrev pub All : ℕ → List ℕ → Type 0
+All n [] = Unit {0}
+All n (k ∷ ns) = (k ≡ n) × All n ns
+
+pub all-same : (n : ℕ) (ns : List ℕ) → (T (lengthsDiffer (n ∷ ns)) → ⊥) → All n ns
+unfolding any
+all-same n [] h = tt
+all-same n (k ∷ ns) h = (eqb→eq k n (passes (eqb k n) (λ t. h (search tests))), all-same n ns (λ t. h (search tests)))
+
+pub same-all : (n : ℕ) (ns : List ℕ) → All n ns → T (lengthsDiffer (n ∷ ns)) → ⊥
+unfolding any
+same-all n [] a = λ t. t
+same-all n (k ∷ ns) a = or-none (not (eqb k n)) _ (λ t. T-not (eqb k n) t (eq-test (a .0))) (same-all n ns (a .1))

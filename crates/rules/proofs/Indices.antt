@@ -126,3 +126,9 @@ module _ {A : Type 0} (d : A) where
       go : (getD l i d ≡ x) ⊎ List·Memᴰ (getD l i d) (take i l) → (List·Memᴰ (getD l i d) (take i l) → ⊥) → ⊥
       go (inl e) ih = u .0 (Memᴰ·cast (sym e) (at-mem d l i (omega arith)))
       go (inr k) ih = ih k
+
+-- numbers that rise by one are distinct
+pub from-distinct : (i n : ℕ) → Distinct (from i n)
+unfolding from
+from-distinct i zero = tt
+from-distinct i (suc n) = (λ m. let r = mem-at 0 m in omega (arith, r .1, r .2, from-length (suc i) n, from-at (suc i) n (r .0) 0 (omega (arith, r .1, from-length (suc i) n))), from-distinct (suc i) n)

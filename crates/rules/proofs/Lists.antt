@@ -1,8 +1,8 @@
 -- Tests and membership. Assumes nothing.
-use mathlib.Core.Bool.{Bool, true, false, cond, _&&_, _||_}
+use mathlib.Core.Bool.{Bool, true, false, cond, _&&_, _||_, not}
 use mathlib.Core.List.{List, [], _∷_, flatMap, List·Memᴰ, List·Memᴰ·head, List·Memᴰ·tail, List·Memᴰ·not-nil, List·Memᴰ·cases-cons, List·Memᴰ·append-cases, Memᴰ·append-left, Memᴰ·append-right}
 use mathlib.Core.Path.{_≡_, refl, sym, subst}
-use mathlib.Core.Logic.{_⊎_, inl, inr}
+use mathlib.Core.Logic.{_⊎_, inl, inr, ⊎-elim}
 use Prim.Native.Nat.{ℕ}
 use lib.Dec.{T, eqb, eqb-refl}
 use Rattle.rules.specs.Lists.{any, keep}
@@ -38,6 +38,13 @@ same-test false false f g = refl
 
 pub eq-test : {m n : ℕ} → m ≡ n → T (eqb m n)
 eq-test {m} e = subst (λ k. T (eqb m k)) e (eqb-refl m)
+
+pub passes : (b : Bool) → (T (not b) → ⊥) → T b
+passes true h = tt
+passes false h = h tt
+
+pub or-none : (a b : Bool) → (T a → ⊥) → (T b → ⊥) → T (a || b) → ⊥
+or-none a b g h t = ⊎-elim g h (or-cases a b t)
 
 -- a choice by a test that passes, and by one that does not
 module _ {A : Type 0} (x y : A) where
