@@ -10,11 +10,12 @@ use Rattle.rules.specs.Graph.{Edge, Settled}
 use Rattle.rules.specs.Paths.{delaySum, total, PathTo, Smallest, Largest}
 use Rattle.rules.specs.Labels.{unsettled, between, label, labels}
 use Rattle.rules.specs.Reasons.{unequalReconvergentDelay, reasons, UnequalDelay}
+use Rattle.rules.specs.Projection.{firstEdges, chainFrom, beforeLast}
 use Rattle.rules.specs.Refusals.{Output, sceneLimits, checkScene}
 use Rattle.rules.specs.declared.answers.Checked.the-variants.{Accepted}
 use Rattle.rules.proofs.Indices.{map-at}
 use Rattle.rules.proofs.LabelLaws.{label→, →label}
-use Rattle.laws.proofs.Room.{accepted-path-plain}
+use Rattle.laws.proofs.Room.{accepted-path-plain, accepted-projected-plain}
 use Rattle.laws.proofs.UnequalReasons.{extreme-agrees, unequal-reason→, →unequal-reason}
 
 -- an entry of list 8 is the label of the component in its place
@@ -22,7 +23,7 @@ pub label-entry : (cs : List Component) (es : List Edge) (k : ℕ) → k < lengt
 unfolding labels
 label-entry cs es k h = map-at (label es (delayAt cs) (delayAt cs)) (map idOf cs) k 0 unsettled (omega (arith, length-map cs idOf))
 
--- 511 components of 255 each
+-- a path sum has at most 511 delays of 255, a projected delay 512
 room : (sceneLimits .components - 1) * 255 ≤ cap
 room = omega arith
 
@@ -37,18 +38,22 @@ module _ (l : ComponentLists) (m : ConnectionLists) (outputs : List Output) (acc
   abbrev plainSum : List ℕ → ℕ
   plainSum p = total (delayAt cs) p
 
-  plain : (v : ℕ) (p : List ℕ) → PathTo es v p → delaySum (delayAt cs) p ≡ plainSum p
-  plain v p P = accepted-path-plain sceneLimits l m outputs accepted room P
+  -- no path sum and no projected delay meets the cap
+  pub base-path-plain : (v : ℕ) (p : List ℕ) → PathTo es v p → delaySum (delayAt cs) p ≡ plainSum p
+  base-path-plain v p P = accepted-path-plain sceneLimits l m outputs accepted room P
+
+  pub base-projected-plain : (e : Edge) → List·Memᴰ e (firstEdges cs es) → delaySum (delayAt cs) (beforeLast (chainFrom cs es e)) ≡ plainSum (beforeLast (chainFrom cs es e))
+  base-projected-plain e n = accepted-projected-plain sceneLimits l m outputs accepted (omega arith) e n
 
   -- a label shows the smallest and the largest plain sum of a settled component
   pub base-label→ : (v low high : ℕ) → label es (delayAt cs) (delayAt cs) v ≡ between low high → Settled es v × Smallest es plainSum v low × Largest es plainSum v high
   base-label→ v low high e =
       let r = label→ es (delayAt cs) (delayAt cs) v low high e in
-      (r .0, extreme-agrees (plain v) (r .1), extreme-agrees (plain v) (r .2))
+      (r .0, extreme-agrees (base-path-plain v) (r .1), extreme-agrees (base-path-plain v) (r .2))
 
   pub →base-label : (v low high : ℕ) → Settled es v → Smallest es plainSum v low → Largest es plainSum v high → label es (delayAt cs) (delayAt cs) v ≡ between low high
   →base-label v low high s a b =
-      →label es (delayAt cs) (delayAt cs) v low high s (extreme-agrees (λ p P. sym (plain v p P)) a) (extreme-agrees (λ p P. sym (plain v p P)) b)
+      →label es (delayAt cs) (delayAt cs) v low high s (extreme-agrees (λ p P. sym (base-path-plain v p P)) a) (extreme-agrees (λ p P. sym (base-path-plain v p P)) b)
 
   -- an unequal-delay reason is listed exactly where the plain sums differ
   pub base-unequal→ : (v low high : ℕ) → List·Memᴰ (unequalReconvergentDelay v low high) (reasons cs es) → UnequalDelay cs es plainSum plainSum v low high
