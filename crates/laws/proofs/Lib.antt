@@ -15,3 +15,8 @@ pub mod Chains
 pub mod Projection
 pub mod PathParts
 pub mod StoredEdges
+-- ids and positions: the passes work on positions, the meanings on ids
+pub mod Renaming
+pub mod RenamedProjection
+pub mod PositionEdges
+pub mod ByPosition

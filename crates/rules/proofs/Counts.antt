@@ -1,7 +1,7 @@
 -- How many entries of a list pass a test, and that no entry stands twice where a test counts it once. Assumes nothing.
 use mathlib.Core.Bool.{Bool, true, false, not, cond, _&&_, _||_}
 use mathlib.Core.List.{List, [], _∷_, _++_, map, flatMap, List·Memᴰ, List·Memᴰ·head, List·Memᴰ·tail, Memᴰ·cast}
-use mathlib.Core.Path.{_≡_, refl, ap, subst}
+use mathlib.Core.Path.{_≡_, refl, sym, ap, subst}
 use Prim.Native.Nat.{ℕ, suc, _+_, _≤_, _<_, zero-le}
 use native.Mathlib.Omega.{arith}
 use lib.Dec.{T, T-not, eqb, eqb-refl}
@@ -67,6 +67,9 @@ module _ {A : Type 0} where
       go true false i e = absurd (i tt)
       go false true i e = omega arith
       go false false i e = e
+
+  pub count-same : (f g : A → Bool) (l : List A) → ((x : A) → List·Memᴰ x l → f x ≡ g x) → count f l ≡ count g l
+  count-same f g l h = omega (arith, count-under f g l (λ x m t. subst T (h x m) t), count-under g f l (λ x m t. subst T (sym (h x m)) t))
 
   pub count-split : (f g : A → Bool) (l : List A) → count (λ x. f x && g x) l + count (λ x. not (f x) && g x) l ≡ count g l
   unfolding count

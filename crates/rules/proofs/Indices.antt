@@ -108,6 +108,11 @@ indices-split i n h = ap (from 0) whole ∙ rw zero-add at (from-append 0 i (n -
     whole : n ≡ i + (n - i)
     whole = omega arith
 
+-- one index more
+pub indices-more : (i : ℕ) → indices (i + 1) ≡ indices i ++ (i ∷ [])
+unfolding indices from
+indices-more i = rw zero-add at (from-append 0 i 1)
+
 module _ {A : Type 0} (d : A) where
   -- no entry stands twice, if none stands among those before it
   pub distinct-if : (l : List A) → ((i : ℕ) → i < length l → List·Memᴰ (getD l i d) (take i l) → ⊥) → Distinct l
@@ -126,6 +131,14 @@ module _ {A : Type 0} (d : A) where
       go : (getD l i d ≡ x) ⊎ List·Memᴰ (getD l i d) (take i l) → (List·Memᴰ (getD l i d) (take i l) → ⊥) → ⊥
       go (inl e) ih = u .0 (Memᴰ·cast (sym e) (at-mem d l i (omega arith)))
       go (inr k) ih = ih k
+
+  -- entries that are equal stand at one index
+  pub distinct-at : (l : List A) → Distinct l → (i j : ℕ) → i < length l → j < length l → getD l i d ≡ getD l j d → i ≡ j
+  distinct-at [] u i j h k e = absurd (omega arith)
+  distinct-at (x ∷ l) u zero zero h k e = refl
+  distinct-at (x ∷ l) u zero (suc j) h k e = absurd (u .0 (Memᴰ·cast e (at-mem d l j (omega arith))))
+  distinct-at (x ∷ l) u (suc i) zero h k e = absurd (u .0 (Memᴰ·cast (sym e) (at-mem d l i (omega arith))))
+  distinct-at (x ∷ l) u (suc i) (suc j) h k e = ap suc (distinct-at l (u .1) i j (omega arith) (omega arith) e)
 
 -- numbers that rise by one are distinct
 pub from-distinct : (i n : ℕ) → Distinct (from i n)

@@ -1,7 +1,7 @@
 -- Tests and membership. Assumes nothing.
 use mathlib.Core.Bool.{Bool, true, false, cond, _&&_, _||_, not}
-use mathlib.Core.List.{List, [], _∷_, flatMap, List·Memᴰ, List·Memᴰ·head, List·Memᴰ·tail, List·Memᴰ·not-nil, List·Memᴰ·cases-cons, List·Memᴰ·append-cases, Memᴰ·append-left, Memᴰ·append-right}
-use mathlib.Core.Path.{_≡_, refl, sym, subst}
+use mathlib.Core.List.{List, [], _∷_, _++_, map, flatMap, map-append, List·Memᴰ, List·Memᴰ·head, List·Memᴰ·tail, List·Memᴰ·not-nil, List·Memᴰ·cases-cons, List·Memᴰ·append-cases, Memᴰ·append-left, Memᴰ·append-right}
+use mathlib.Core.Path.{_≡_, refl, sym, ap, ap₂, subst, _∙_}
 use mathlib.Core.Logic.{_⊎_, inl, inr, ⊎-elim}
 use Prim.Native.Nat.{ℕ}
 use lib.Dec.{T, eqb, eqb-refl}
@@ -108,3 +108,51 @@ module _ {A B : Type 0} (f : A → List B) where
       go : (List·Memᴰ y (flatMap f l) → (x : A) × List·Memᴰ x l × List·Memᴰ y (f x)) → List·Memᴰ y (f z) ⊎ List·Memᴰ y (flatMap f l) → (x : A) × List·Memᴰ x (z ∷ l) × List·Memᴰ y (f x)
       go below (inl k) = (z, List·Memᴰ·head refl, k)
       go below (inr k) = let r = below k in (r .0, List·Memᴰ·tail (r .1), r .2)
+
+-- tests that agree on the entries of a list
+module _ {A : Type 0} (f g : A → Bool) where
+  pub any-same : (l : List A) → ((x : A) → List·Memᴰ x l → f x ≡ g x) → any f l ≡ any g l
+  unfolding any
+  any-same [] h = refl
+  any-same (x ∷ l) h = let ih = any-same l (λ y m. h y (List·Memᴰ·tail m)) in rw (h x (List·Memᴰ·head refl), ih)
+
+  pub keep-same : (l : List A) → ((x : A) → List·Memᴰ x l → f x ≡ g x) → keep f l ≡ keep g l
+  unfolding keep
+  keep-same [] h = refl
+  keep-same (x ∷ l) h = let ih = keep-same l (λ y m. h y (List·Memᴰ·tail m)) in rw (h x (List·Memᴰ·head refl), ih)
+
+module _ {A : Type 0} (f : A → Bool) where
+  pub keep-append : (a b : List A) → keep f (a ++ b) ≡ keep f a ++ keep f b
+  unfolding keep
+  keep-append [] b = refl
+  keep-append (x ∷ a) b = go (f x) (keep-append a b)
+    where
+      go : (c : Bool) → keep f (a ++ b) ≡ keep f a ++ keep f b → cond c (x ∷ keep f (a ++ b)) (keep f (a ++ b)) ≡ cond c (x ∷ keep f a) (keep f a) ++ keep f b
+      go true e = ap (λ r. x ∷ r) e
+      go false e = e
+
+-- mapped lists
+module _ {A B : Type 0} where
+  pub map-same : (f g : A → B) (l : List A) → ((x : A) → List·Memᴰ x l → f x ≡ g x) → map f l ≡ map g l
+  map-same f g [] h = refl
+  map-same f g (x ∷ l) h = ap₂ _∷_ (h x (List·Memᴰ·head refl)) (map-same f g l (λ y m. h y (List·Memᴰ·tail m)))
+
+  pub any-map : (f : B → Bool) (g : A → B) (l : List A) → any f (map g l) ≡ any (λ x. f (g x)) l
+  unfolding any
+  any-map f g [] = refl
+  any-map f g (x ∷ l) = ap (λ r. f (g x) || r) (any-map f g l)
+
+  pub keep-map : (f : B → Bool) (g : A → B) (l : List A) → keep f (map g l) ≡ map g (keep (λ x. f (g x)) l)
+  unfolding keep
+  keep-map f g [] = refl
+  keep-map f g (x ∷ l) = go (f (g x)) (keep-map f g l)
+    where
+      go : (b : Bool) → keep f (map g l) ≡ map g (keep (λ x. f (g x)) l) → cond b (g x ∷ keep f (map g l)) (keep f (map g l)) ≡ map g (cond b (x ∷ keep (λ x. f (g x)) l) (keep (λ x. f (g x)) l))
+      go true e = ap (λ r. g x ∷ r) e
+      go false e = e
+
+  -- rows for mapped entries that are mapped rows
+  pub flat-mapped : {C D : Type 0} (f : B → List D) (g : A → B) (h : C → D) (k : A → List C) (l : List A) → ((x : A) → List·Memᴰ x l → f (g x) ≡ map h (k x)) → flatMap f (map g l) ≡ map h (flatMap k l)
+  unfolding flatMap
+  flat-mapped f g h k [] e = refl
+  flat-mapped f g h k (x ∷ l) e = ap₂ _++_ (e x (List·Memᴰ·head refl)) (flat-mapped f g h k l (λ y m. e y (List·Memᴰ·tail m))) ∙ sym (map-append h (k x) (flatMap k l))

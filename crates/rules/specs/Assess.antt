@@ -1,7 +1,7 @@
 -- The answer of the call that writes lists 3 to 8. Assumes nothing: these are definitions.
 use mathlib.Core.Bool.{not}
 use mathlib.Core.List.{List, [], _∷_}
-use Prim.Native.Nat.{ℕ, _+_, _*_}
+use Prim.Native.Nat.{ℕ}
 use lib.ListN.{length}
 use Rattle.rules.specs.Lists.{count}
 use Rattle.rules.specs.Codes.{scopeCode, patternCode}
@@ -9,17 +9,16 @@ use Rattle.rules.specs.Scene.{Component, Scene, ComponentLists, Connecti
 use Rattle.rules.specs.Reasons.{reasons, feedback, scope, pattern}
 use Rattle.rules.specs.Projection.{compressed, projected, pathIds}
 use Rattle.rules.specs.Graph.{Edge}
-use Rattle.rules.specs.Refusals.{SceneLimits, Output, output, checkScene}
+use Rattle.rules.specs.Refusals.{SceneLimits, Output, outputsFrom, checkScene}
 use Rattle.rules.specs.declared.answers.Assessment.{Assessment}
 use Rattle.rules.specs.declared.answers.Checked.{Checked}
 use Rattle.rules.specs.declared.answers.Checked.the-variants.{Accepted, Refused}
 use Rattle.rules.specs.declared.answers.SceneAnswer.{SceneAnswer}
 use Rattle.rules.specs.declared.answers.SceneAnswer.the-variants as Answer
 
--- the output lists of the call: "3 reasons 2N+1, 4 feedback ids N, 5 retained or compressed marks N, 6 projected edges M, 7 path ids 2M+N, 8 labels N"
+-- the output lists of the call: 3 to 8
 abbrev pub assessOutputs : (n m : ℕ) → (reasonLengths feedbackLengths markLengths projectedLengths pathLengths labelLengths : List ℕ) → List Output
-assessOutputs n m l3 l4 l5 l6 l7 l8 =
-    output 3 (2 * n + 1) l3 ∷ output 4 n l4 ∷ output 5 n l5 ∷ output 6 m l6 ∷ output 7 (2 * m + n) l7 ∷ output 8 n l8 ∷ []
+assessOutputs n m l3 l4 l5 l6 l7 l8 = outputsFrom 3 n m (l3 ∷ l4 ∷ l5 ∷ l6 ∷ l7 ∷ l8 ∷ [])
 
 -- the checks of the call
 unfoldable pub checkAssess : SceneLimits → ComponentLists → ConnectionLists → (reasonLengths feedbackLengths markLengths projectedLengths pathLengths labelLengths : List ℕ) → Checked

@@ -1,13 +1,13 @@
 -- Lists 0, 1 and 2: timed edges, devices and evidence. Assumes nothing: these are definitions.
 use mathlib.Core.List.{List, [], _∷_, _++_, map}
-use Prim.Native.Nat.{ℕ, _+_}
+use Prim.Native.Nat.{ℕ}
 use lib.IntN.{ℤ}
 use lib.ListN.{length}
 use Rattle.rules.specs.Lists.{keep}
 use Rattle.rules.specs.Kinds.{isDevice}
 use Rattle.rules.specs.Codes.{behaviorCode, semanticsCode}
 use Rattle.rules.specs.Scene.{Component, Connection, Scene, ComponentLists, ConnectionLists, isEdge, rowOf, delayOf, rowAt, delayAt}
-use Rattle.rules.specs.Refusals.{SceneLimits, Output, output, checkScene}
+use Rattle.rules.specs.Refusals.{SceneLimits, Output, outputsFrom, checkScene}
 use Rattle.rules.specs.declared.kinds.DeviceMeaning.{DeviceMeaning}
 use Rattle.rules.specs.declared.kinds.DeviceMeaning.the-variants.{NoDevice, Device}
 use Rattle.rules.specs.declared.answers.Checked.{Checked}
@@ -100,9 +100,9 @@ deviceEvidence c = deviceSemantics (c .id) (c .kind)
 unfoldable pub evidence : List Component → List Connection → List Evidence
 evidence cs ns = map connectionEvidence ns ++ map deviceEvidence (deviceComponents cs)
 
--- the output lists of the call, with the lengths of their fields' number lists: "0 timed edges M, 1 devices N, 2 evidence M+N"
+-- the output lists of the call: 0, 1 and 2
 abbrev pub describeOutputs : (n m : ℕ) → (edgeLengths deviceLengths evidenceLengths : List ℕ) → List Output
-describeOutputs n m l0 l1 l2 = output 0 m l0 ∷ output 1 n l1 ∷ output 2 (m + n) l2 ∷ []
+describeOutputs n m l0 l1 l2 = outputsFrom 0 n m (l0 ∷ l1 ∷ l2 ∷ [])
 
 -- the checks of the call
 unfoldable pub checkDescribe : SceneLimits → ComponentLists → ConnectionLists → (edgeLengths deviceLengths evidenceLengths : List ℕ) → Checked

@@ -1,10 +1,10 @@
 -- Edges between ids: reach, cycles, settled components, strongly connected components. Assumes nothing: these are definitions.
-use mathlib.Core.Bool.{Bool, not, _&&_, _||_}
-use mathlib.Core.List.{List, [], _∷_, List·Memᴰ}
+use mathlib.Core.Bool.{Bool, not, cond, _&&_, _||_}
+use mathlib.Core.List.{List, [], _∷_, map, List·Memᴰ}
 use mathlib.Core.Path.{_≡_}
 use Prim.Native.Nat.{ℕ}
 use lib.Dec.{eqb}
-use Rattle.rules.specs.Lists.{any, count}
+use Rattle.rules.specs.Lists.{any, count, indices}
 
 infix 60 _⟶_
 -- an edge from a source id to a sink id
@@ -49,6 +49,20 @@ settled es v = not (any (cycleReaching es v) es)
 -- "a maximal set of vertices of a directed graph in which every vertex is reachable from every other": u and v share theirs
 unfoldable pub stronglyConnected : List Edge → ℕ → ℕ → Bool
 stronglyConnected es u v = reach es u v && reach es v u
+
+-- Nodes by number: the edges that two lists of ends give, one by one
+unfoldable pub edgesBetween : (sources sinks : List ℕ) → List Edge
+edgesBetween [] sinks = []
+edgesBetween (a ∷ sources) [] = []
+edgesBetween (a ∷ sources) (b ∷ sinks) = (a ⟶ b) ∷ edgesBetween sources sinks
+
+-- of the nodes 0 to n - 1, a different one shares the strongly connected component of v
+unfoldable pub sharesComponent : List Edge → ℕ → ℕ → Bool
+sharesComponent es n v = any (λ w. not (eqb w v) && stronglyConnected es v w) (indices n)
+
+-- a mark for each node: 1 if it shares its strongly connected component with a different node, else 0
+unfoldable pub sharedMarks : List Edge → ℕ → List ℕ
+sharedMarks es n = map (λ v. cond (sharesComponent es n v) 1 0) (indices n)
 
 -- The same notions without computation; proofs/Reach and proofs/Paths show that they agree
 

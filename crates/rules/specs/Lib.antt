@@ -1,5 +1,6 @@
 -- The meanings, in reading order. Words, delays, kinds and numbers:
 pub mod Lists
+pub mod Ordered
 pub mod Delay
 pub mod Kinds
 pub mod Codes

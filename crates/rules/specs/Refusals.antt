@@ -2,7 +2,7 @@
 -- Assumes nothing: these are definitions.
 use mathlib.Core.Bool.{Bool, false, not, cond, _&&_, _||_}
 use mathlib.Core.List.{List, [], _∷_, _++_, map, flatMap}
-use Prim.Native.Nat.{ℕ}
+use Prim.Native.Nat.{ℕ, suc, _+_, _*_}
 use lib.Dec.{eqb, ltb}
 use lib.ListN.{length, getD, take}
 use Rattle.rules.specs.Lists.{any, indices, writtenFrom}
@@ -54,6 +54,16 @@ pub record Output : Type 0 where
 
 abbrev pub output : ℕ → ℕ → List ℕ → Output
 output n k ls = record { number = n; need = k; lengths = ls }
+
+-- "Output lists, numbered, with the length each needs: 0 timed edges M, 1 devices N, 2 evidence M+N, 3 reasons 2N+1, 4 feedback ids N,
+-- 5 retained or compressed marks N, 6 projected edges M, 7 path ids 2M+N, 8 labels N."
+abbrev pub needOf : (n m list : ℕ) → ℕ
+needOf n m k = getD (m ∷ n ∷ (m + n) ∷ (2 * n + 1) ∷ n ∷ n ∷ m ∷ (2 * m + n) ∷ n ∷ []) k 0
+
+-- the output lists of a call, by rising number from one on, each with the lengths of its fields' number lists
+abbrev pub outputsFrom : (list n m : ℕ) → List (List ℕ) → List Output
+outputsFrom k n m [] = []
+outputsFrom k n m (lengths ∷ lists) = output k (needOf n m k) lengths ∷ outputsFrom (suc k) n m lists
 
 -- some length is not the first one
 abbrev pub lengthsDiffer : List ℕ → Bool

@@ -47,6 +47,12 @@ pub record ConnectionLists : Type 0 where
   pub sinks : List ℕ
   pub transfers : List ℕ
 
+abbrev pub componentLists : (ids kinds delays locked : List ℕ) → (xs ys zs : List ℤ) → ComponentLists
+componentLists is ks ds fs xs ys zs = record { ids = is; kinds = ks; delays = ds; locked = fs; xs = xs; ys = ys; zs = zs }
+
+abbrev pub connectionLists : (sources sinks transfers : List ℕ) → ConnectionLists
+connectionLists ss ts ks = record { sources = ss; sinks = ts; transfers = ks }
+
 -- the component of one index
 unfoldable pub componentAt : ComponentLists → ℕ → Component
 componentAt l i =

@@ -1,0 +1,6 @@
+pub mod Room
+pub mod SizeSteps
+pub mod ComponentSteps
+pub mod Repeats
+pub mod ConnectionSteps
+pub mod LoopSteps

@@ -1,0 +1,85 @@
+// The tests of components, one by one: 4, then 3.
+ghost use mathlib.Core.Path.{_≡_};
+ghost use mathlib.Core.Bool.{cond};
+ghost use mathlib.Core.List.{[]};
+ghost use Prim.Native.Nat.{_<_, min};
+ghost use lib.Dec.{eqb};
+ghost use lib.ListN.{length, getD};
+ghost use Rattle.rules.specs.Ordered.{ordered};
+ghost use Rattle.rules.specs.Scene.{componentLists};
+ghost use Rattle.rules.specs.Refusals.{firstRefusal, componentTests};
+ghost use Rattle.rules.proofs.FirstRefusal.{rows};
+ghost use Rattle.scene.specs.Steps.{FirstRepeat, Rows};
+use rules::answers::Checked;
+
+// The smaller of first and q, where the ids at p and q are equal; first where they are not.
+fn earlier_repeat(ids: &[u64], p: usize, q: usize, first: usize) -> usize
+    requires { ⌜ (p < length (now ids)) × (q < length (now ids)) ⌝ }
+    ensures { λ r. ⌜ r ≡ cond (eqb (getD (now (ids .entry)) p 0) (getD (now (ids .entry)) q 0)) (min q first) first ⌝ }
+{
+    if ids[p] == ids[q] {
+        if q < first {
+            return q;
+        }
+    }
+    first
+}
+
+// The least position whose id an earlier one has, or the number of positions. Equal ids are neighbours in the
+// ordered positions, the later one behind.
+pub(crate) fn first_repeat(ids: &[u64], order: &[usize]) -> usize
+    requires { ⌜ now order ≡ ordered (now ids) ⌝ }
+    ensures { λ r. ⌜ FirstRepeat (now (ids .entry)) r ⌝ }
+{
+    let mut first = ids.len();
+    let mut k = 1;
+    while k < order.len() {
+        let p = order[k - 1];
+        let q = order[k];
+        first = earlier_repeat(ids, p, q, first);
+        k += 1;
+    }
+    first
+}
+
+// The first component with a value out of range, or the one whose id is the first to repeat.
+pub(crate) fn check_components(
+    ids: &[u64],
+    kinds: &[u8],
+    delays: &[u16],
+    locked: &[u8],
+    repeat: usize,
+) -> Checked
+    requires { ⌜ Rows (now ids) (now kinds) (now delays) (now locked) × FirstRepeat (now ids) repeat ⌝ }
+    ensures { λ r. ⌜ r ≡ firstRefusal (rows (componentTests (componentLists (now (ids .entry)) (now (kinds .entry)) (now (delays .entry)) (now (locked .entry)) [] [] [])) (length (now (ids .entry)))) ⌝ }
+{
+    let mut i = 0;
+    while i < ids.len() {
+        if 12 < kinds[i] {
+            return Checked::Refused {
+                number: 4,
+                place: i as u64,
+            };
+        }
+        if 256 < delays[i] {
+            return Checked::Refused {
+                number: 4,
+                place: i as u64,
+            };
+        }
+        if 1 < locked[i] {
+            return Checked::Refused {
+                number: 4,
+                place: i as u64,
+            };
+        }
+        if i == repeat {
+            return Checked::Refused {
+                number: 3,
+                place: i as u64,
+            };
+        }
+        i += 1;
+    }
+    Checked::Accepted
+}
