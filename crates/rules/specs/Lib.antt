@@ -11,8 +11,9 @@ pub mod Paths
 pub mod Labels
 pub mod Reasons
 pub mod Projection
--- the refusals of a scene, and the two scene calls:
+-- the refusals of a scene, and the calls on a scene:
 pub mod Refusals
+pub mod Feedback
 pub mod Describe
 pub mod Assess
 -- recorded pulses, the trace call, and recording:

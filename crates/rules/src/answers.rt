@@ -6,6 +6,12 @@ pub enum Checked {
     Refused { number: u32, place: u64 },
 }
 
+// How many entries of list 4 are used, and how many Feedback reasons there are: one, or none.
+pub enum FeedbackAnswer {
+    Refused { number: u32, place: u64 },
+    Listed { feedback: u64, reasons: u64 },
+}
+
 pub enum TemporalScope {
     SteadyStateSafe,
     TimingSensitive,

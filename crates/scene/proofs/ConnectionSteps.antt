@@ -91,6 +91,12 @@ module _ (ids sources sinks transfers : List ℕ) where
   connections-more : (j : ℕ) → map (connectionAt lists) (indices (j + 1)) ≡ map (connectionAt lists) (indices j) ++ (at j ∷ [])
   connections-more j = ap (map (connectionAt lists)) (indices-more j) ∙ map-append (connectionAt lists) (indices j) (j ∷ []) ∙ ap (λ x. map (connectionAt lists) (indices j) ++ (x ∷ [])) (row-at j)
 
+  pub one-at-most : (j r k a b : ℕ) → LookedUp ids (at j) r k a b → k ≤ 1
+  one-at-most j r k a b (bad-transfer t) = omega arith
+  one-at-most j r k a b (end-missing f t) = omega arith
+  one-at-most j r k a b (support f g h) = omega arith
+  one-at-most j r k a b (edge f g t x y h p i q) = omega arith
+
   row-accepted : (j k a b : ℕ) → LookedUp ids (at j) 0 k a b → Accepted ≡ firstRefusal (connectionTests (idsAlone ids) lists j)
   unfolding connectionTests connectionAt
   row-accepted j k a b (support f g h) = more _ _ f (more _ _ g end)

@@ -4,16 +4,20 @@ use mathlib.Core.List.{List, [], _∷_, _++_, map, map-append, append-nil}
 use mathlib.Core.Path.{_≡_, refl, sym, ap, subst, _∙_}
 use Prim.Native.Nat.{ℕ, _+_, _<_, _≤_}
 use native.Mathlib.Omega.{arith}
-use lib.Dec.{T, eqb, eqb→eq}
-use lib.ListN.{length, getD, set, length-append}
+use lib.Dec.{T, not-T, eqb, eqb→eq, leb, leb→le, le→leb}
+use lib.ListN.{length, getD, take, set, length-append}
+use lib.Seq.{take-at}
 use Rattle.rules.specs.Kinds.{kindRow}
-use Rattle.rules.specs.Lists.{keep, from, indices, written}
-use Rattle.rules.specs.Reasons.{passive}
+use Rattle.rules.specs.Graph.{edgesBetween, sharedMarks}
+use Rattle.rules.specs.Lists.{any, keep, from, indices, written}
+use Rattle.rules.specs.Reasons.{passive, feedbackReason}
 use Rattle.rules.specs.declared.kinds.TemporalNodeKind.{TemporalNodeKind}
-use Rattle.rules.proofs.Lists.{keep-append, eq-test, same-test}
-use Rattle.rules.proofs.Indices.{indices-more}
+use Rattle.rules.proofs.Lists.{keep-append, eq-test, same-test, chosen, any-out, tests}
+use Rattle.rules.proofs.Indices.{indices-more, mem-at}
 use Rattle.rules.proofs.Written.{written-none, written-more}
-use Rattle.scene.specs.Loops.{onLoop, loopIds}
+use Rattle.graph.specs.Fits.{endsBelow, graphFits}
+use Rattle.laws.proofs.PositionEdges.{inside-sources, inside-sinks}
+use Rattle.scene.specs.Loops.{onLoop, loopIds, sharedIds, Linked}
 
 and-false : (a : Bool) → (a && false) ≡ false
 and-false true = refl
@@ -66,3 +70,49 @@ module _ (ids kinds marks old : List ℕ) where
     counted = rw (loop-ids-more i, ← e, append-nil) (r .counted);
     few = omega (arith, r .few);
   }
+
+-- edges between positions are a graph, with room in lists of the limits' lengths
+module _ (starts stops : List ℕ) (n : ℕ) (linked : Linked starts stops n) where
+  below : (ends : List ℕ) → ((i : ℕ) → i < length ends → getD ends i 0 < n) → T (endsBelow n ends)
+  unfolding endsBelow
+  below ends h = not-T (any (leb n) ends) (λ t.
+      let r = any-out (leb n) ends t in
+      let k = mem-at 0 (r .1) in
+      omega (arith, leb→le n (r .0) (r .2), h (k .0) (k .1), k .2))
+
+  linked-fits : T (graphFits starts stops n 512 2048 512 512)
+  unfolding graphFits
+  linked-fits =
+      let a = eq-test (linked .pairs) in
+      let b = le→leb n 512 (linked .nodes-few) in
+      let c = le→leb (length starts) 2048 (linked .edges-few) in
+      let d = below starts (inside-sources n starts stops (sym (linked .pairs)) (linked .inside)) in
+      let e = below stops (inside-sinks n starts stops (sym (linked .pairs)) (linked .inside)) in
+      search tests depth 9
+
+  pub marks-shared : (old new : List ℕ) → new ≡ cond (graphFits starts stops n 512 2048 512 512) (sharedMarks (edgesBetween starts stops) n) old → new ≡ sharedMarks (edgesBetween starts stops) n
+  marks-shared old new e = e ∙ chosen (sharedMarks (edgesBetween starts stops) n) old (graphFits starts stops n 512 2048 512 512) linked-fits
+
+-- one reason where something is listed
+pub one-reason : (ids : List ℕ) → 0 < length ids → 1 ≡ length (feedbackReason ids)
+unfolding feedbackReason
+one-reason [] h = absurd (omega arith)
+one-reason (x ∷ ids) h = refl
+
+pub no-reason : (ids : List ℕ) → length ids ≡ 0 → 0 ≡ length (feedbackReason ids)
+unfolding feedbackReason
+no-reason [] h = refl
+no-reason (x ∷ ids) h = absurd (omega arith)
+
+-- the front of a list, written anew, is what was written
+pub written-front : (n : ℕ) (new rest marks : List ℕ) → length new ≡ n → new ≡ marks → take n (new ++ rest) ≡ marks
+written-front n new rest marks e q = take-at new rest n e ∙ q
+
+pub shared-listed : (ids kinds starts stops marks feedback old : List ℕ) (r : ℕ) → marks ≡ sharedMarks (edgesBetween starts stops) (length ids)
+    → (feedback ≡ written old (loopIds ids kinds marks (length ids))) × (r ≡ length (loopIds ids kinds marks (length ids)))
+    → (feedback ≡ written old (sharedIds ids kinds starts stops)) × (r ≡ length (sharedIds ids kinds starts stops))
+unfolding sharedIds
+shared-listed ids kinds starts stops marks feedback old r e p = subst (λ m. (feedback ≡ written old (loopIds ids kinds m (length ids))) × (r ≡ length (loopIds ids kinds m (length ids)))) e p
+
+pub front-room : (n : ℕ) (new rest : List ℕ) → length new ≡ n → n ≤ length (take n (new ++ rest))
+front-room n new rest e = omega (arith, ap length (take-at new rest n e))

@@ -28,12 +28,13 @@ pub data LookedUp (ids : List ℕ) (n : Connection) : (refusal edges start stop 
   edge : (T (badTransfer n) → ⊥) → (T (endMissing ids n) → ⊥) → T (isEdge n) → (a b : ℕ) → a < length ids → getD ids a 0 ≡ n .source → b < length ids → getD ids b 0 ≡ n .sink
       → LookedUp ids n 0 1 a b
 
--- the lists of connections have one length, within the room for edges, and the ids are ordered
-pub record Joined (ids order sources sinks transfers : List ℕ) : Type 0 where
+-- the ids are ordered, the lists of connections have one length, and there is room for an edge from each
+pub record Joined (ids order sources sinks transfers starts stops : List ℕ) : Type 0 where
   pub sorted : order ≡ ordered ids
   pub sinks-length : length sinks ≡ length sources
   pub transfers-length : length transfers ≡ length sources
-  pub few : length sources ≤ 2048
+  pub starts-room : length sources ≤ length starts
+  pub stops-room : length sources ≤ length stops
 
 -- the answer of the connections' tests; where they accept, the first entries of the two lists are the edges over positions
 pub record EndsFound (ids : List ℕ) (m : ConnectionLists) (starts stops : List ℕ) (checked : Checked) (edges : ℕ) : Type 0 where

@@ -1,4 +1,5 @@
 pub mod Room
 pub mod Steps
 pub mod Ends
+pub mod Indexed
 pub mod Loops

@@ -5,9 +5,11 @@ use mathlib.Core.Path.{_≡_}
 use Prim.Native.Nat.{ℕ, _≤_}
 use lib.Dec.{eqb}
 use lib.ListN.{length, getD}
+use Rattle.rules.specs.Graph.{edgesBetween, sharedMarks}
 use Rattle.rules.specs.Kinds.{kindRow}
 use Rattle.rules.specs.Lists.{keep, indices}
 use Rattle.rules.specs.Reasons.{passive}
+use Rattle.laws.proofs.Renaming.{Inside}
 
 -- the component is neither Wire nor Conductor, and has a mark
 abbrev pub onLoop : (kinds marks : List ℕ) → ℕ → Bool
@@ -17,8 +19,19 @@ onLoop kinds marks i = not (passive (kindRow (getD kinds i 0) .node)) && not (eq
 unfoldable pub loopIds : (ids kinds marks : List ℕ) → ℕ → List ℕ
 loopIds ids kinds marks n = map (λ i. getD ids i 0) (keep (onLoop kinds marks) (indices n))
 
--- a kind, a mark and room for each component
+-- a kind for each component, and room for its mark and its id
 pub record Marked (ids kinds marks feedback : List ℕ) : Type 0 where
   pub kinds-length : length kinds ≡ length ids
-  pub marks-length : length marks ≡ length ids
+  pub marks-room : length ids ≤ length marks
   pub room : length ids ≤ length feedback
+
+-- the same with the marks of positions that share their strongly connected component with a different one
+unfoldable pub sharedIds : (ids kinds starts stops : List ℕ) → List ℕ
+sharedIds ids kinds starts stops = loopIds ids kinds (sharedMarks (edgesBetween starts stops) (length ids)) (length ids)
+
+-- edges between positions below n, within the limits of a scene
+pub record Linked (starts stops : List ℕ) (n : ℕ) : Type 0 where
+  pub pairs : length stops ≡ length starts
+  pub nodes-few : n ≤ 512
+  pub edges-few : length starts ≤ 2048
+  pub inside : Inside n (edgesBetween starts stops)

@@ -1,16 +1,47 @@
 // Feedback: list 4, and the Feedback part of the reasons.
 ghost use mathlib.Core.Path.{_≡_};
 ghost use mathlib.Core.Bool.{cond, not, _&&_};
-ghost use mathlib.Core.List.{map};
-ghost use Prim.Native.Nat.{_+_, _<_, _≤_};
+ghost use mathlib.Core.List.{List};
+ghost use Prim.Native.Nat.{ℕ, _+_, _<_, _≤_};
 ghost use lib.Dec.{eqb};
 ghost use lib.ListN.{length, set};
 ghost use Rattle.rules.specs.Kinds.{kindRow};
 ghost use Rattle.rules.specs.Lists.{written};
-ghost use Rattle.rules.specs.Reasons.{passive};
-ghost use Rattle.scene.specs.Loops.{Marked, loopIds};
+ghost use Rattle.rules.specs.Graph.{edgesBetween, sharedMarks};
+ghost use Rattle.rules.specs.Feedback.{FeedbackCall};
+ghost use Rattle.rules.specs.Scene.{componentLists, connectionLists};
+ghost use Rattle.rules.specs.Reasons.{passive, feedbackReason};
+ghost use Rattle.rules.specs.Refusals.{sceneLimits};
+ghost use Rattle.scene.specs.Loops.{Linked, Marked, loopIds, sharedIds};
+ghost use Rattle.scene.specs.Indexed.{IndexRoom};
+use crate::index::index_scene;
+use graph::mark_shared_components;
+use rules::answers::Checked;
+use rules::answers::FeedbackAnswer;
 use rules::kinds::TemporalNodeKind;
+use rules::limits::MAX_COMPONENTS;
+use rules::limits::MAX_CONNECTIONS;
 use tables::kinds::kind_row;
+
+// Marks each position that shares its strongly connected component with a different one.
+fn mark_positions(starts: &[usize], stops: &[usize], marks: &mut [u8])
+    requires { ⌜ Linked (now starts) (now stops) (length (now marks)) ⌝ }
+    ensures { λ _. ⌜ now (marks .exit) ≡ sharedMarks (edgesBetween (now (starts .entry)) (now (stops .entry))) (length (now (marks .entry))) ⌝ }
+{
+    let mut head = [0usize; MAX_COMPONENTS];
+    let mut next = [0usize; MAX_CONNECTIONS];
+    let mut order = [0usize; MAX_COMPONENTS];
+    let mut group = [0usize; MAX_COMPONENTS];
+    mark_shared_components(
+        starts,
+        stops,
+        marks,
+        &mut head,
+        &mut next,
+        &mut order,
+        &mut group,
+    );
+}
 
 // Whether a component of this kind is neither Wire nor Conductor and its mark is set.
 fn on_loop(kind: u8, mark: u8) -> bool
@@ -47,17 +78,156 @@ fn list_id(list: &mut [u64], count: usize, id: u64, listed: bool) -> usize
 }
 
 // Lists, in component order, the ids of the components that are neither Wire nor Conductor and have a mark.
-fn list_marked(ids: &[u64], kinds: &[u8], marks: &[u8], feedback: &mut [u64]) -> usize
-    requires { ⌜ Marked (now ids) (now kinds) (now marks) (now feedback) ⌝ }
-    ensures ids { λ _. ⌜ now (feedback .exit) ≡ written (now (feedback .entry)) (loopIds (now (ids .entry)) (now (kinds .entry)) (now (marks .entry)) (length (now (ids .entry)))) ⌝ }
+fn list_marked(ids: &[u64], kinds: &[u8], marks: &[u8], feedback_ids: &mut [u64]) -> usize
+    requires { ⌜ Marked (now ids) (now kinds) (now marks) (now «feedback_ids») ⌝ }
+    ensures ids { λ _. ⌜ now («feedback_ids» .exit) ≡ written (now («feedback_ids» .entry)) (loopIds (now (ids .entry)) (now (kinds .entry)) (now (marks .entry)) (length (now (ids .entry)))) ⌝ }
     ensures counted { λ r. ⌜ r ≡ length (loopIds (now (ids .entry)) (now (kinds .entry)) (now (marks .entry)) (length (now (ids .entry)))) ⌝ }
 {
     let mut count = 0;
     let mut i = 0;
     while i < ids.len() {
         let listed = on_loop(kinds[i], marks[i]);
-        count = list_id(feedback, count, ids[i], listed);
+        count = list_id(feedback_ids, count, ids[i], listed);
         i += 1;
     }
     count
+}
+
+// Marks the positions in the front of marks, then lists.
+fn list_shared(
+    ids: &[u64],
+    kinds: &[u8],
+    starts: &[usize],
+    stops: &[usize],
+    marks: &mut [u8],
+    feedback_ids: &mut [u64],
+) -> usize
+    requires { ⌜ Linked (now starts) (now stops) (length (now ids)) × Marked (now ids) (now kinds) (now marks) (now «feedback_ids») ⌝ }
+    ensures ids { λ _. ⌜ now («feedback_ids» .exit) ≡ written (now («feedback_ids» .entry)) (sharedIds (now (ids .entry)) (now (kinds .entry)) (now (starts .entry)) (now (stops .entry))) ⌝ }
+    ensures counted { λ r. ⌜ r ≡ length (sharedIds (now (ids .entry)) (now (kinds .entry)) (now (starts .entry)) (now (stops .entry))) ⌝ }
+{
+    let n = ids.len();
+    mark_positions(starts, stops, &mut marks[..n]);
+    list_marked(ids, kinds, &marks[..n], feedback_ids)
+}
+
+// Lists the ids of list 4, given the edges over positions; answers how many there are.
+pub(crate) fn active_feedback_components(
+    ids: &[u64],
+    kinds: &[u8],
+    starts: &[usize],
+    stops: &[usize],
+    feedback_ids: &mut [u64],
+) -> usize
+    requires { ⌜ Linked (now starts) (now stops) (length (now ids)) × (length (now kinds) ≡ length (now ids)) × (length (now ids) ≤ length (now «feedback_ids»)) ⌝ }
+    ensures ids { λ _. ⌜ now («feedback_ids» .exit) ≡ written (now («feedback_ids» .entry)) (sharedIds (now (ids .entry)) (now (kinds .entry)) (now (starts .entry)) (now (stops .entry))) ⌝ }
+    ensures counted { λ r. ⌜ r ≡ length (sharedIds (now (ids .entry)) (now (kinds .entry)) (now (starts .entry)) (now (stops .entry))) ⌝ }
+{
+    let mut marks = [0u8; MAX_COMPONENTS];
+    list_shared(ids, kinds, starts, stops, &mut marks, feedback_ids)
+}
+
+// How many Feedback reasons there are, of the ids listed.
+pub(crate) fn feedback_reasons(listed: usize) -> u64
+    ensures { λ r. ⌜ ((ids : List ℕ) → listed ≡ length ids → r ≡ length (feedbackReason ids)) ⌝ }
+{
+    if 0 < listed { 1 } else { 0 }
+}
+
+// The call below, with lists to index the scene in.
+fn feedback_indexed(
+    ids: &[u64],
+    kinds: &[u8],
+    delays: &[u16],
+    locked: &[u8],
+    xs: &[i32],
+    ys: &[i32],
+    zs: &[i32],
+    sources: &[u64],
+    sinks: &[u64],
+    transfers: &[u8],
+    order: &mut [usize],
+    starts: &mut [usize],
+    stops: &mut [usize],
+    feedback_ids: &mut [u64],
+) -> FeedbackAnswer
+    requires { ⌜ IndexRoom (now order) (now starts) (now stops) ⌝ }
+    ensures { λ r. ⌜ FeedbackCall sceneLimits (componentLists (now (ids .entry)) (now (kinds .entry)) (now (delays .entry)) (now (locked .entry)) (now (xs .entry)) (now (ys .entry)) (now (zs .entry))) (connectionLists (now (sources .entry)) (now (sinks .entry)) (now (transfers .entry))) (now («feedback_ids» .entry)) (now («feedback_ids» .exit)) r ⌝ }
+{
+    let room = [feedback_ids.len()];
+    let index = index_scene(
+        ids,
+        kinds,
+        delays,
+        locked,
+        xs,
+        ys,
+        zs,
+        sources,
+        sinks,
+        transfers,
+        4,
+        &room,
+        order,
+        starts,
+        stops,
+    );
+    let checked = index.checked;
+    let edges = index.edges;
+    match checked {
+        Checked::Refused { number, place } => FeedbackAnswer::Refused {
+            number: number,
+            place: place,
+        },
+        Checked::Accepted => {
+            let listed = active_feedback_components(
+                ids,
+                kinds,
+                &starts[..edges],
+                &stops[..edges],
+                feedback_ids,
+            );
+            FeedbackAnswer::Listed {
+                feedback: listed as u64,
+                reasons: feedback_reasons(listed),
+            }
+        }
+    }
+}
+
+// Lists the Feedback ids of a scene, or refuses the scene and leaves the list as it was.
+pub fn feedback_scene(
+    ids: &[u64],
+    kinds: &[u8],
+    delays: &[u16],
+    locked: &[u8],
+    xs: &[i32],
+    ys: &[i32],
+    zs: &[i32],
+    sources: &[u64],
+    sinks: &[u64],
+    transfers: &[u8],
+    feedback_ids: &mut [u64],
+) -> FeedbackAnswer
+    ensures { λ r. ⌜ FeedbackCall sceneLimits (componentLists (now (ids .entry)) (now (kinds .entry)) (now (delays .entry)) (now (locked .entry)) (now (xs .entry)) (now (ys .entry)) (now (zs .entry))) (connectionLists (now (sources .entry)) (now (sinks .entry)) (now (transfers .entry))) (now («feedback_ids» .entry)) (now («feedback_ids» .exit)) r ⌝ }
+{
+    let mut order = [0usize; MAX_COMPONENTS];
+    let mut starts = [0usize; MAX_CONNECTIONS];
+    let mut stops = [0usize; MAX_CONNECTIONS];
+    feedback_indexed(
+        ids,
+        kinds,
+        delays,
+        locked,
+        xs,
+        ys,
+        zs,
+        sources,
+        sinks,
+        transfers,
+        &mut order,
+        &mut starts,
+        &mut stops,
+        feedback_ids,
+    )
 }

@@ -1,0 +1,40 @@
+// Edges linked by the node that they leave: head[u] is the first edge that leaves u and next[e] the one after e, each
+// past the last edge if there is none.
+ghost use Prim.Native.Nat.{_<_};
+ghost use mathlib.Core.Path.{_≡_};
+ghost use lib.ListN.{length, replicate};
+ghost use Rattle.graph.specs.Adjacency.{Below, Indexed};
+
+// Links the edges by the ends in sources.
+pub(crate) fn index_edges(sources: &[usize], head: &mut [usize], next: &mut [usize])
+    requires { ⌜ (length (now next) ≡ length (now sources)) × Below (length (now head)) (now sources) ⌝ }
+    ensures { λ _. ⌜ Indexed (now (sources .entry)) (now (head .exit)) (now (next .exit)) ⌝ }
+{
+    clear_heads(sources.len(), head);
+    link_edges(sources, head, next);
+}
+
+// No edge leaves any node yet.
+fn clear_heads(m: usize, head: &mut [usize])
+    ensures { λ _. ⌜ now (head .exit) ≡ replicate (length (now (head .entry))) m ⌝ }
+{
+    let mut u = 0;
+    while u < head.len() {
+        head[u] = m;
+        u += 1;
+    }
+}
+
+// Puts the edges in front of their chains from the last to the first, so that each chain is in the edges' order.
+fn link_edges(sources: &[usize], head: &mut [usize], next: &mut [usize])
+    requires { ⌜ (length (now next) ≡ length (now sources)) × Below (length (now head)) (now sources) × (now head ≡ replicate (length (now head)) (length (now sources))) ⌝ }
+    ensures { λ _. ⌜ Indexed (now (sources .entry)) (now (head .exit)) (now (next .exit)) ⌝ }
+{
+    let mut e = sources.len();
+    while 0 < e {
+        e -= 1;
+        let u = sources[e];
+        next[e] = head[u];
+        head[u] = e;
+    }
+}

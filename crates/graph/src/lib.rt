@@ -1,0 +1,106 @@
+// Strongly connected components of a graph whose nodes are the numbers below n.
+ghost use mathlib.Core.Bool.{false, cond};
+ghost use mathlib.Core.Path.{_≡_};
+ghost use lib.ListN.{length};
+ghost use Rattle.rules.specs.Graph.{edgesBetween, sharedMarks};
+ghost use Rattle.graph.specs.Fits.{endsBelow, graphFits};
+use crate::components::mark_shared;
+use crate::components::strongly_connected_components;
+
+mod adjacency; // adjacency.rt: edges linked by the node that they leave
+mod visit_order; // visit_order.rt: depth-first visits, and the order in which they leave the nodes
+mod collect; // collect.rt: what a node reaches through nodes not seen yet
+mod components; // components.rt: a group for each strongly connected component, and marks from the groups
+
+// Marks each node of the graph with the edges sources[e] → sinks[e]: 1 if a different node is in its strongly connected
+// component, else 0. There is a node for each entry of marks. The lists must fit: as many sinks as sources, each end a
+// node, head, order and group with an entry for each node at least, next with one for each edge. If they do not, the
+// answer is false and every list keeps its content. If they do, what head, next, order and group hold afterwards is
+// open: they are lent to work in.
+pub fn mark_shared_components(
+    sources: &[usize],
+    sinks: &[usize],
+    marks: &mut [u8],
+    head: &mut [usize],
+    next: &mut [usize],
+    order: &mut [usize],
+    group: &mut [usize],
+) -> bool
+    ensures fits { λ r. ⌜ r ≡ graphFits (now (sources .entry)) (now (sinks .entry)) (length (now (marks .entry))) (length (now (head .entry))) (length (now (next .entry))) (length (now (order .entry))) (length (now (group .entry))) ⌝ }
+    ensures marked { λ _. ⌜ now (marks .exit) ≡ cond (graphFits (now (sources .entry)) (now (sinks .entry)) (length (now (marks .entry))) (length (now (head .entry))) (length (now (next .entry))) (length (now (order .entry))) (length (now (group .entry)))) (sharedMarks (edgesBetween (now (sources .entry)) (now (sinks .entry))) (length (now (marks .entry)))) (now (marks .entry)) ⌝ }
+    ensures kept { λ r. ⌜ (r ≡ false → (now (head .exit) ≡ now (head .entry)) × (now (next .exit) ≡ now (next .entry)) × (now (order .exit) ≡ now (order .entry)) × (now (group .exit) ≡ now (group .entry))) ⌝ }
+{
+    let n = marks.len();
+    let m = sources.len();
+    if graph_fits(
+        sources,
+        sinks,
+        n,
+        head.len(),
+        next.len(),
+        order.len(),
+        group.len(),
+    ) {
+        strongly_connected_components(
+            sources,
+            sinks,
+            marks,
+            &mut head[..n],
+            &mut next[..m],
+            order,
+            &mut group[..n],
+        );
+        mark_shared(&group[..n], marks);
+        true
+    } else {
+        false
+    }
+}
+
+// Whether the lists make a graph of n nodes, with room for the work.
+fn graph_fits(
+    sources: &[usize],
+    sinks: &[usize],
+    n: usize,
+    heads: usize,
+    links: usize,
+    places: usize,
+    groups: usize,
+) -> bool
+    ensures { λ r. ⌜ r ≡ graphFits (now (sources .entry)) (now (sinks .entry)) n heads links places groups ⌝ }
+{
+    if sinks.len() != sources.len() {
+        return false;
+    }
+    if heads < n {
+        return false;
+    }
+    if links < sources.len() {
+        return false;
+    }
+    if places < n {
+        return false;
+    }
+    if groups < n {
+        return false;
+    }
+    if ends_below(sources, n) {
+        ends_below(sinks, n)
+    } else {
+        false
+    }
+}
+
+// Whether each end is one of the nodes below n.
+fn ends_below(ends: &[usize], n: usize) -> bool
+    ensures { λ r. ⌜ r ≡ endsBelow n (now (ends .entry)) ⌝ }
+{
+    let mut e = 0;
+    while e < ends.len() {
+        if n <= ends[e] {
+            return false;
+        }
+        e += 1;
+    }
+    true
+}

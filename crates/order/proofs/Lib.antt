@@ -1,0 +1,6 @@
+-- Facts that the proofs of the functions share:
+pub mod Filling
+pub mod Merging
+pub mod Halves
+pub mod Whole
+pub mod Searching

@@ -1,0 +1,28 @@
+-- What a search among ordered positions promises. Assumes nothing: these are definitions.
+use mathlib.Core.List.{List}
+use mathlib.Core.Path.{_≡_}
+use Prim.Native.Nat.{ℕ, _≤_, _<_}
+use lib.ListN.{length, getD}
+use Rattle.rules.specs.Ordered.{keyAt, ordered, positionOf}
+use Rattle.rules.specs.declared.positions.Found.{Found}
+use Rattle.rules.specs.declared.positions.Found.the-variants.{At}
+
+-- the answer, whatever the row is, and where it is the ordered positions
+pub record Searched (keys order : List ℕ) (key : ℕ) (r : Found) : Type 0 where
+  pub has-key : (p : ℕ) → r ≡ At p → (p < length keys) × (keyAt keys p ≡ key)
+  pub first : order ≡ ordered keys → r ≡ positionOf keys key
+
+-- the key at a place of a row of positions
+abbrev pub keyOf : List ℕ → List ℕ → ℕ → ℕ
+keyOf keys order k = keyAt keys (getD order k 0)
+
+-- the ordered positions from low on and before high are still to be searched
+pub record Searching (keys order : List ℕ) (key low high : ℕ) : Type 0 where
+  pub narrow : low ≤ high
+  pub inside : high ≤ length order
+  pub below : order ≡ ordered keys → (k : ℕ) → k < low → keyOf keys order k < key
+  pub above : order ≡ ordered keys → (k : ℕ) → high ≤ k → k < length order → key ≤ keyOf keys order k
+
+-- the first place whose key is not below: nothing is left to be searched there
+abbrev pub FirstNotBelow : List ℕ → List ℕ → ℕ → ℕ → Type 0
+FirstNotBelow keys order key r = Searching keys order key r r

@@ -1,0 +1,50 @@
+// The first position of a key, by halving the ordered positions.
+ghost use mathlib.Core.Path.{_≡_};
+ghost use Rattle.rules.specs.Ordered.{keyAt};
+ghost use Rattle.order.specs.Searched.{FirstNotBelow, Searched};
+use rules::positions::Found;
+
+// Answers the first position of the key where `order` is the ordered positions of `keys`. Where it is not, an answer is still a
+// position of the key, but may not be the first, and a key may be missed.
+pub fn find_position(keys: &[u64], order: &[usize], key: u64) -> Found
+    ensures { λ r. ⌜ Searched (now (keys .entry)) (now (order .entry)) key r ⌝ }
+{
+    let place = first_not_below(keys, order, key);
+    if place < order.len() {
+        let position = order[place];
+        if position < keys.len() {
+            if keys[position] == key {
+                return Found::At(position);
+            }
+        }
+    }
+    Found::Missing
+}
+
+// The first place whose key is not below the one looked for, or the number of places.
+fn first_not_below(keys: &[u64], order: &[usize], key: u64) -> usize
+    ensures { λ r. ⌜ FirstNotBelow (now (keys .entry)) (now (order .entry)) key r ⌝ }
+{
+    let mut low = 0;
+    let mut high = order.len();
+    while low < high {
+        let middle = low + (high - low) / 2;
+        if key_at(keys, order[middle]) < key {
+            low = middle + 1;
+        } else {
+            high = middle;
+        }
+    }
+    low
+}
+
+// The key at a position, or 0 past the last.
+fn key_at(keys: &[u64], position: usize) -> u64
+    ensures { λ r. ⌜ r ≡ keyAt (now (keys .entry)) position ⌝ }
+{
+    if position < keys.len() {
+        keys[position]
+    } else {
+        0
+    }
+}
