@@ -6,13 +6,14 @@ use Prim.Native.Nat.{ℕ, zero, suc, _<_}
 use native.Mathlib.Omega.{arith}
 use lib.Dec.{eqb, eqb→eq}
 use lib.ListN.{length, getD}
-use Rattle.rules.specs.Graph.{Edge, _⟶_, sourceOf, sinkOf, edgesBetween}
+use Rattle.rules.specs.Graph.{Edge, _⟶_, sourceOf, sinkOf, edgesBetween, Walk, stop, step}
 use Rattle.rules.proofs.Lists.{keep-in, keep-out, eq-test}
 use Rattle.rules.proofs.Indices.{indices-below, below-indices}
 use Rattle.graph.specs.Adjacency.{Indexed, leaving, ends, neighbours}
+use Rattle.graph.specs.Groups.{Between}
 
 -- the ends of an edge that two lists give
-pub record Joins (sources sinks : List ℕ) (u v : ℕ) : Type 0 where
+record Joins (sources sinks : List ℕ) (u v : ℕ) : Type 0 where
   pub at : ℕ
   pub listed : at < length sources
   pub paired : at < length sinks
@@ -22,7 +23,7 @@ pub record Joins (sources sinks : List ℕ) (u v : ℕ) : Type 0 where
 joins-more : (a b : ℕ) (sources sinks : List ℕ) {u v : ℕ} → Joins sources sinks u v → Joins (a ∷ sources) (b ∷ sinks) u v
 joins-more a b sources sinks j = record { at = suc (j .at); listed = omega (arith, j .listed); paired = omega (arith, j .paired); source = j .source; sink = j .sink }
 
-pub edge-joins : (sources sinks : List ℕ) {u v : ℕ} → List·Memᴰ (u ⟶ v) (edgesBetween sources sinks) → Joins sources sinks u v
+edge-joins : (sources sinks : List ℕ) {u v : ℕ} → List·Memᴰ (u ⟶ v) (edgesBetween sources sinks) → Joins sources sinks u v
 unfolding edgesBetween
 edge-joins [] sinks m = absurd (List·Memᴰ·not-nil m)
 edge-joins (a ∷ sources) [] m = absurd (List·Memᴰ·not-nil m)
@@ -39,7 +40,7 @@ edge-at (a ∷ sources) [] i h k = absurd (omega arith)
 edge-at (a ∷ sources) (b ∷ sinks) zero h k = List·Memᴰ·head refl
 edge-at (a ∷ sources) (b ∷ sinks) (suc i) h k = List·Memᴰ·tail (edge-at sources sinks i (omega arith) (omega arith))
 
-pub joins-edge : (sources sinks : List ℕ) {u v : ℕ} → Joins sources sinks u v → List·Memᴰ (u ⟶ v) (edgesBetween sources sinks)
+joins-edge : (sources sinks : List ℕ) {u v : ℕ} → Joins sources sinks u v → List·Memᴰ (u ⟶ v) (edgesBetween sources sinks)
 joins-edge sources sinks j = Memᴰ·cast (let z : _ ⟶ _ ≡ getD sources (j .at) 0 ⟶ getD sinks (j .at) 0 = cc in z) (edge-at sources sinks (j .at) (j .listed) (j .paired))
 
 -- the edges backwards
@@ -76,3 +77,15 @@ module _ (sources sinks head next : List ℕ) (pairs : length sinks ≡ length s
 
   pub leads : Leads (edgesBetween sources sinks) (length head) (neighbours head next sinks)
   leads = record { only = listed-only; every = listed-every }
+
+-- the edges lie between n nodes, and so do walks along them
+module _ (sources sinks : List ℕ) (n : ℕ) (edges : Between sources sinks n) where
+  pub edge-low : (u v : ℕ) → List·Memᴰ (u ⟶ v) (edgesBetween sources sinks) → u < n
+  edge-low u v m = let j = edge-joins sources sinks m in subst (λ k. k < n) (j .source) (edges .low (j .at) (j .listed))
+
+  pub edge-high : (u v : ℕ) → List·Memᴰ (u ⟶ v) (edgesBetween sources sinks) → v < n
+  edge-high u v m = let j = edge-joins sources sinks m in subst (λ k. k < n) (j .sink) (edges .high (j .at) (j .paired))
+
+  pub walk-high : {u v : ℕ} → Walk (edgesBetween sources sinks) u v → u < n → v < n
+  walk-high (stop e) l = subst (λ k. k < n) e l
+  walk-high (step {u} {w} m p) l = walk-high p (edge-high u w m)

@@ -7,7 +7,7 @@ use native.Mathlib.Omega.{arith}
 use lib.ListN.{length, getD, set, take, drop, length-set, length-append, take-append-drop}
 use lib.Seq.{length-take-le, drop-cons, set-at, take-at, drop-at, drop-drop}
 use Rattle.rules.specs.Lists.{writtenFrom, from, indices}
-use Rattle.rules.proofs.Indices.{from-append}
+use Rattle.rules.proofs.Indices.{indices-more}
 use Rattle.graph.specs.Adjacency.{ends, neighbours}
 use Rattle.graph.specs.Visits.{unseen, done, skip, enter, Ready, Visited}
 use Rattle.graph.proofs.Chains.{Passed, passed-more, passed-all}
@@ -135,9 +135,5 @@ pub visited-start : (head next sinks s order : List ℕ) → Visited head next s
 unfolding indices from
 visited-start head next sinks s order = visited-none head next sinks s order 0
 
-indices-more : (u : ℕ) → indices u ++ (u ∷ []) ≡ indices (u + 1)
-unfolding indices from
-indices-more u = sym (rw zero-add at (from-append 0 u 1))
-
 pub visited-next : {head next sinks s order s₁ order₁ s₂ order₂ : List ℕ} {c r : ℕ} (u : ℕ) → Visited head next sinks (indices u) s order 0 s₁ order₁ c → Visited head next sinks (u ∷ []) s₁ order₁ c s₂ order₂ r → Visited head next sinks (indices (u + 1)) s order 0 s₂ order₂ r
-visited-next u v w = rw (← indices-more u) (visited-append (omega arith) v w)
+visited-next u v w = rw (indices-more u) (visited-append (omega arith) v w)

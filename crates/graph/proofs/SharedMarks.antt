@@ -11,7 +11,7 @@ use lib.ListN.{length, getD, set, take, replicate, length-set, length-append, le
 use lib.Seq.{getD-set-same, getD-set-other, ext-getD, take-at}
 use Rattle.rules.specs.Lists.{any, indices}
 use Rattle.rules.specs.Graph.{Edge, sharesComponent, sharedMarks}
-use Rattle.rules.proofs.Lists.{and-left, and-right, and-both, eq-test, same-test, chosen, not-chosen, any-in, any-out}
+use Rattle.rules.proofs.Lists.{and-left, and-right, and-both, eq-test, same-test, chosen, not-chosen, any-in, any-out, any-same}
 use Rattle.rules.proofs.Indices.{indices-below, below-indices, made-length, made-at}
 use Rattle.graph.specs.Groups.{Rooted, Grouped, sharesGroup, groupMarks}
 use Rattle.graph.proofs.Filled.{no-mark}
@@ -138,11 +138,6 @@ module _ (n : ℕ) (group marks : List ℕ) (u : ℕ) (r : Rooted n group) (was 
     unfolding groupMarks
     marking-end = ext-getD 0 marks _ (was .size ∙ sym (made-length (λ v. cond (sharesGroup group v) 1 0) (length group)))
         (λ v h. let vn : v < length group = omega (arith, was .size) in mark-of v vn ∙ sym (made-at (λ v. cond (sharesGroup group v) 1 0) (length group) v 0 vn))
-
-any-same : (f g : ℕ → Bool) (l : List ℕ) → ((x : ℕ) → List·Memᴰ x l → f x ≡ g x) → any f l ≡ any g l
-any-same f g l h = same-test (any f l) (any g l)
-    (λ t. let r = any-out f l t in any-in g (r .1) (subst T (h (r .0) (r .1)) (r .2)))
-    (λ t. let r = any-out g l t in any-in f (r .1) (subst T (sym (h (r .0) (r .1))) (r .2)))
 
 -- groups by strong connection give the rules' marks
 module _ (es : List Edge) (n : ℕ) (group : List ℕ) (g : Grouped es n group) where

@@ -1,6 +1,6 @@
 -- The loop over the order of the visits, and the groups that it ends with. Assumes nothing.
 use mathlib.Core.List.{List, _∷_, [], List·Memᴰ}
-use mathlib.Core.Path.{_≡_, sym, subst, _∙_}
+use mathlib.Core.Path.{_≡_, refl, sym, subst, _∙_}
 use Prim.Native.Nat.{ℕ, suc, _-_, _<_, _≤_}
 use native.Mathlib.Nat.{zero-add}
 use native.Mathlib.Omega.{arith}
@@ -8,18 +8,18 @@ use lib.Dec.{T, eqb→eq}
 use lib.ListN.{length, getD, take, drop}
 use lib.Seq.{split-at, drop-cons, drop-length}
 use Rattle.rules.specs.Lists.{indices}
-use Rattle.rules.specs.Graph.{Edge, _⟶_, Walk, stop, step, reach, stronglyConnected, edgesBetween}
+use Rattle.rules.specs.Graph.{Edge, reach, stronglyConnected, edgesBetween}
 use Rattle.rules.proofs.Indices.{at-mem, below-indices}
 use Rattle.rules.proofs.Lists.{and-left, and-right, and-both, same-test, eq-test}
 use Rattle.rules.proofs.Reach.{reach→walk, walk→reach}
 use Rattle.rules.proofs.Written.{written-at, written-length}
 use Rattle.graph.specs.Adjacency.{Indexed, Below, neighbours}
-use Rattle.graph.specs.Visits.{Dfs, Linked, Visited, paint}
+use Rattle.graph.specs.Visits.{Dfs, Linked, Visited, Open, Collected, paint}
 use Rattle.graph.specs.Groups.{Between, Grouped, Rooted}
 use Rattle.graph.proofs.Visits.{dfs-length, out-below}
 use Rattle.graph.proofs.GroupSteps.{length-paint}
 use Rattle.graph.proofs.Seen.{Unseen, Seen}
-use Rattle.graph.proofs.Neighbours.{Leads, leads, edge-joins, turn}
+use Rattle.graph.proofs.Neighbours.{Leads, leads, turn, edge-low, edge-high, walk-high}
 use Rattle.graph.proofs.Kosaraju.{Mutual, mutual-sym, mutual-trans, BothWays, Halfway, halfway-none, halfway-old, halfway-new, all-out}
 
 -- a walk each way is the rules' strong connection
@@ -41,17 +41,6 @@ pub record LeftInOrder (es : List Edge) (n : ℕ) (out : List ℕ) : Type 0 wher
   pub blank : (v : ℕ) → Unseen s₀ v
   pub inside : (v : ℕ) → List·Memᴰ v out → v < n
 
--- i nodes of the order are left
-pub record Sweeping (es : List Edge) (n : ℕ) (order s g : List ℕ) (i : ℕ) : Type 0 where
-  pub out : List ℕ
-  pub first : LeftInOrder es n out
-  pub placed : (j : ℕ) → j < length out → getD order j 0 ≡ getD out j 0
-  pub room : length out ≤ length order
-  pub left : i ≤ length out
-  pub half : Halfway es n (drop i out) s g
-  pub marks : length s ≡ n
-  pub groups : length g ≡ n
-
 -- what linked edges are to be, for the visits
 pub linked-of : {sources head next : List ℕ} (sinks marks : List ℕ) {n : ℕ} → Below n sinks → length sinks ≡ length sources → length head ≡ n → Indexed sources head next → length marks ≡ n → Linked head next sinks marks
 linked-of sinks marks inside pairs heads index nodes = record {
@@ -61,65 +50,82 @@ linked-of sinks marks inside pairs heads index nodes = record {
   inside = λ k h. rw heads (inside k h);
 }
 
-module _ (sources sinks : List ℕ) (n : ℕ) (edges : Between sources sinks n) where
-  -- the first pass is done, and nothing taken yet
-  pub sweep-start : (head next s₀ order₀ s₁ order s g : List ℕ) (r : ℕ) → length head ≡ n → Indexed sources head next → Visited head next sinks (indices (length head)) s₀ order₀ 0 s₁ order r → ((v : ℕ) → Unseen s₀ v) → length s₀ ≡ n → ((v : ℕ) → Unseen s v) → length s ≡ n → length g ≡ n
-      → Sweeping (edgesBetween sources sinks) n order s g r
-  sweep-start head next s₀ order₀ s₁ order s g r heads index v blank₀ size₀ blank size room = record {
+-- the edges are linked anew by their sinks, and i nodes of the order are left
+pub record Sweeping (sources sinks head next order s g : List ℕ) (i : ℕ) : Type 0 where
+  pub edges : Between sources sinks (length head)
+  pub index : Indexed sinks head next
+  pub out : List ℕ
+  pub first : LeftInOrder (edgesBetween sources sinks) (length head) out
+  pub placed : (j : ℕ) → j < length out → getD order j 0 ≡ getD out j 0
+  pub room : length out ≤ length order
+  pub left : i ≤ length out
+  pub half : Halfway (edgesBetween sources sinks) (length head) (drop i out) s g
+  pub marks : length s ≡ length head
+  pub groups : length g ≡ length head
+
+-- the first pass is done, and nothing taken yet
+module _ (sources sinks head₁ next₁ head next : List ℕ) (edges : Between sources sinks (length head)) (heads : length head₁ ≡ length head) (index₁ : Indexed sources head₁ next₁) (index : Indexed sinks head next) where
+  pub sweep-start : (s₀ order₀ s₁ order s g : List ℕ) (r : ℕ) → Visited head₁ next₁ sinks (indices (length head₁)) s₀ order₀ 0 s₁ order r → ((v : ℕ) → Unseen s₀ v) → length s₀ ≡ length head → ((v : ℕ) → Unseen s v) → length s ≡ length head → length g ≡ length head
+      → Sweeping sources sinks head next order s g r
+  sweep-start s₀ order₀ s₁ order s g r v blank₀ size₀ blank size room = record {
+    edges = edges;
+    index = index;
     out = v .out;
     first = record {
-      next = neighbours head next sinks;
-      leads = subst (λ k. Leads (edgesBetween sources sinks) k (neighbours head next sinks)) heads (leads sources sinks head next (edges .pairs) index);
+      next = neighbours head₁ next₁ sinks;
+      leads = subst (λ k. Leads (edgesBetween sources sinks) k (neighbours head₁ next₁ sinks)) heads (leads sources sinks head₁ next₁ (edges .pairs) index₁);
       s₀ = s₀;
       s₁ = s₁;
-      dfs = subst (λ k. Dfs (neighbours head next sinks) (indices k) s₀ s₁ (v .out)) heads (v .dfs);
+      dfs = subst (λ k. Dfs (neighbours head₁ next₁ sinks) (indices k) s₀ s₁ (v .out)) heads (v .dfs);
       blank = blank₀;
       inside = λ w m. omega (arith, out-below (v .dfs) w m);
     };
     placed = λ j h. rw (v .written) (written-at order₀ (v .out) j 0 h);
     room = rw (v .written) (written-length order₀ (v .out));
     left = omega (arith, v .result);
-    half = rw (v .result, zero-add (length (v .out)), drop-length (v .out)) (halfway-none (edgesBetween sources sinks) n s g blank);
+    half = rw (v .result, zero-add (length (v .out)), drop-length (v .out)) (halfway-none (edgesBetween sources sinks) (length head) s g blank);
     marks = size;
     groups = room;
   }
 
-  edge-low : (u v : ℕ) → List·Memᴰ (u ⟶ v) (edgesBetween sources sinks) → u < n
-  edge-low u v m = let j = edge-joins sources sinks m in subst (λ k. k < n) (j .source) (edges .low (j .at) (j .listed))
+module _ {sources sinks head next order s g : List ℕ} (i : ℕ) (w : Sweeping sources sinks head next order s g i) where
+  pub sweep-open : Open head next sources s g
+  sweep-open = record { linked = linked-of sources s (w .edges .low) (sym (w .edges .pairs)) refl (w .index) (w .marks); room = w .groups }
 
-  edge-high : (u v : ℕ) → List·Memᴰ (u ⟶ v) (edgesBetween sources sinks) → v < n
-  edge-high u v m = let j = edge-joins sources sinks m in subst (λ k. k < n) (j .sink) (edges .high (j .at) (j .paired))
-
-  walk-high : {u v : ℕ} → Walk (edgesBetween sources sinks) u v → u < n → v < n
-  walk-high (stop e) l = subst (λ k. k < n) e l
-  walk-high (step {u} {w} m p) l = walk-high p (edge-high u w m)
-
-  -- the edges linked anew by their sinks
-  both-ways : (head next : List ℕ) → length head ≡ n → Indexed sinks head next → {along : ℕ → List ℕ} → Leads (edgesBetween sources sinks) n along → BothWays (edgesBetween sources sinks) (edgesBetween sinks sources) n along (neighbours head next sources)
-  both-ways head next heads index forward = record {
-    forward = forward;
-    backward = subst (λ k. Leads (edgesBetween sinks sources) k (neighbours head next sources)) heads (leads sinks sources head next (sym (edges .pairs)) index);
+  both-ways : BothWays (edgesBetween sources sinks) (edgesBetween sinks sources) (length head) (w .first .next) (neighbours head next sources)
+  both-ways = record {
+    forward = w .first .leads;
+    backward = leads sinks sources head next (sym (w .edges .pairs)) (w .index);
     turned = λ u v m. turn sources sinks m;
     returned = λ u v m. turn sinks sources m;
-    low = edge-low;
-    high = edge-high;
+    low = edge-low sources sinks (length head) (w .edges);
+    high = edge-high sources sinks (length head) (w .edges);
   }
 
-  module _ {order s g : List ℕ} (i : ℕ) (pos : 0 < i) (w : Sweeping (edgesBetween sources sinks) n order s g i) where
+  all : (v : ℕ) → v < length head → List·Memᴰ v (w .out)
+  all = let f = w .first in all-out (f .next) (length head) (indices (length head)) (f .s₀) (f .s₁) (w .out) (f .dfs) (f .blank) (λ v l. below-indices (length head) l)
+
+  -- the next node to take
+  module _ (pos : 0 < i) where
     below-out : i - 1 < length (w .out)
     below-out = omega (arith, w .left)
 
     pub sweep-place : i - 1 < length order
     sweep-place = omega (arith, w .left, w .room)
 
-    pub sweep-node : getD order (i - 1) 0 < n
-    sweep-node = rw (w .placed (i - 1) below-out) (w .first .inside (getD (w .out) (i - 1) 0) (at-mem 0 (w .out) (i - 1) below-out))
+    out-node : getD (w .out) (i - 1) 0 < length head
+    out-node = w .first .inside (getD (w .out) (i - 1) 0) (at-mem 0 (w .out) (i - 1) below-out)
 
-    was : Halfway (edgesBetween sources sinks) n (drop (suc (i - 1)) (w .out)) s g
-    was = subst (λ k. Halfway (edgesBetween sources sinks) n (drop k (w .out)) s g) (let q : i ≡ suc (i - 1) = omega arith in q) (w .half)
+    pub sweep-node : getD order (i - 1) 0 < length head
+    sweep-node = rw (w .placed (i - 1) below-out) out-node
 
-    again : (s′ g′ : List ℕ) → length s′ ≡ n → length g′ ≡ n → Halfway (edgesBetween sources sinks) n (getD (w .out) (i - 1) 0 ∷ drop (suc (i - 1)) (w .out)) s′ g′ → Sweeping (edgesBetween sources sinks) n order s′ g′ (i - 1)
+    was : Halfway (edgesBetween sources sinks) (length head) (drop (suc (i - 1)) (w .out)) s g
+    was = subst (λ k. Halfway (edgesBetween sources sinks) (length head) (drop k (w .out)) s g) (let q : i ≡ suc (i - 1) = omega arith in q) (w .half)
+
+    again : (s′ g′ : List ℕ) → length s′ ≡ length head → length g′ ≡ length head → Halfway (edgesBetween sources sinks) (length head) (getD (w .out) (i - 1) 0 ∷ drop (suc (i - 1)) (w .out)) s′ g′ → Sweeping sources sinks head next order s′ g′ (i - 1)
     again s′ g′ marks groups h = record {
+      edges = w .edges;
+      index = w .index;
       out = w .out;
       first = w .first;
       placed = w .placed;
@@ -130,40 +136,37 @@ module _ (sources sinks : List ℕ) (n : ℕ) (edges : Between sources sinks n) 
       groups = groups;
     }
 
-    pub sweep-old : Seen s (getD order (i - 1) 0) → Sweeping (edgesBetween sources sinks) n order s g (i - 1)
-    sweep-old h = again s g (w .marks) (w .groups) (halfway-old _ n (getD (w .out) (i - 1) 0) (drop (suc (i - 1)) (w .out)) s g (subst (Seen s) (w .placed (i - 1) below-out) h) was)
+    pub sweep-old : Seen s (getD order (i - 1) 0) → Sweeping sources sinks head next order s g (i - 1)
+    sweep-old h = again s g (w .marks) (w .groups) (halfway-old _ (length head) (getD (w .out) (i - 1) 0) (drop (suc (i - 1)) (w .out)) s g (subst (Seen s) (w .placed (i - 1) below-out) h) was)
 
-    pub sweep-new : (head next : List ℕ) → length head ≡ n → Indexed sinks head next → Unseen s (getD order (i - 1) 0) → (s′ o : List ℕ) → Dfs (neighbours head next sources) (getD order (i - 1) 0 ∷ []) s s′ o
-        → Sweeping (edgesBetween sources sinks) n order s′ (paint (getD order (i - 1) 0) o g) (i - 1)
-    sweep-new head next heads index z s′ o d =
+    pub sweep-new : Unseen s (getD order (i - 1) 0) → {s′ g′ : List ℕ} → Collected head next sources (getD order (i - 1) 0 ∷ []) s g (getD order (i - 1) 0) s′ g′ → Sweeping sources sinks head next order s′ g′ (i - 1)
+    sweep-new z {s′} c =
         let same = w .placed (i - 1) below-out in
         let r : ℕ = getD (w .out) (i - 1) 0 in
         let f = w .first in
-        rw same (again s′ (paint r o g) (dfs-length d ∙ w .marks) (length-paint r o g ∙ w .groups)
-        (halfway-new _ _ n (f .next) (neighbours head next sources) (both-ways head next heads index (f .leads)) (f .s₀) (indices n) (f .s₁) (w .out) (f .dfs)
-        (all-out (f .next) n (indices n) (f .s₀) (f .s₁) (w .out) (f .dfs) (f .blank) (λ v l. below-indices n l))
-        (take (i - 1) (w .out)) (drop (suc (i - 1)) (w .out)) r (split-at (w .out) (i - 1) 0 below-out)
-        (f .inside r (at-mem 0 (w .out) (i - 1) below-out)) s g s′ o was (rw same at z) (rw same at d) (w .groups)))
+        rw (c .painted, same) (again s′ (paint r (c .out) g) (dfs-length (c .dfs) ∙ w .marks) (length-paint r (c .out) g ∙ w .groups)
+        (halfway-new _ _ (length head) (f .next) (neighbours head next sources) both-ways (f .s₀) (indices (length head)) (f .s₁) (w .out) (f .dfs) all
+        (take (i - 1) (w .out)) (drop (suc (i - 1)) (w .out)) r (split-at (w .out) (i - 1) 0 below-out) out-node s g s′ (c .out) was (rw same at z) (rw same at (c .dfs)) (w .groups)))
 
   -- every node is taken
-  module _ {order s g : List ℕ} (w : Sweeping (edgesBetween sources sinks) n order s g 0) where
-    seen : (x : ℕ) → x < n → Seen s x
-    seen x xn = let f = w .first in w .half .listed x (all-out (f .next) n (indices n) (f .s₀) (f .s₁) (w .out) (f .dfs) (f .blank) (λ v l. below-indices n l) x xn)
+  module _ (none : i ≡ 0) where
+    seen : (x : ℕ) → x < length head → Seen s x
+    seen x xn = w .half .listed x (rw none (all x xn))
 
-    own : (x : ℕ) → x < n → Mutual (edgesBetween sources sinks) x (getD g x 0)
+    own : (x : ℕ) → x < length head → Mutual (edgesBetween sources sinks) x (getD g x 0)
     own x xn = w .half .own x xn (seen x xn)
 
-    inside : (x : ℕ) → x < n → getD g x 0 < n
-    inside x xn = walk-high (own x xn .0) xn
+    inside : (x : ℕ) → x < length head → getD g x 0 < length head
+    inside x xn = walk-high sources sinks (length head) (w .edges) (own x xn .0) xn
 
-    sweep-rooted : Rooted n g
+    sweep-rooted : Rooted (length head) g
     sweep-rooted = record {
       size = w .groups;
       inside = λ x h. inside x (omega (arith, w .groups));
       root = λ x xn. w .half .whole x (getD g x 0) xn (inside x xn) (seen x xn) (own x xn) .1;
     }
 
-    pub sweep-end : Grouped (edgesBetween sources sinks) n g
+    pub sweep-end : Grouped (edgesBetween sources sinks) (length head) g
     sweep-end = record {
       rooted = sweep-rooted;
       same = λ x y xn yn. same-test _ _

@@ -1,9 +1,9 @@
 // The tests of components, one by one: 4, then 3.
 ghost use mathlib.Core.Path.{_≡_};
-ghost use mathlib.Core.Bool.{cond};
+ghost use mathlib.Core.Bool.{cond, _||_};
 ghost use mathlib.Core.List.{[]};
 ghost use Prim.Native.Nat.{_<_, min};
-ghost use lib.Dec.{eqb};
+ghost use lib.Dec.{eqb, ltb};
 ghost use lib.ListN.{length, getD};
 ghost use Rattle.rules.specs.Ordered.{ordered};
 ghost use Rattle.rules.specs.Scene.{componentLists};
@@ -42,7 +42,37 @@ pub(crate) fn first_repeat(ids: &[u64], order: &[usize]) -> usize
     first
 }
 
-// The first component with a value out of range, or the one whose id is the first to repeat.
+// 4 where a value of a component is out of range, else 0.
+fn range_refusal(kind: u8, delay: u16, locked: u8) -> u32
+    ensures { λ r. ⌜ r ≡ cond (ltb 12 kind || (ltb 256 delay || ltb 1 locked)) 4 0 ⌝ }
+{
+    if 12 < kind {
+        return 4;
+    }
+    if 256 < delay {
+        return 4;
+    }
+    if 1 < locked {
+        return 4;
+    }
+    0
+}
+
+// 3 where component i is the first whose id repeats, else 0.
+fn repeat_refusal(i: usize, repeat: usize) -> u32
+    ensures { λ r. ⌜ r ≡ cond (eqb i repeat) 3 0 ⌝ }
+{
+    if i == repeat { 3 } else { 0 }
+}
+
+// Of two tests made one after the other, the refusal that counts.
+fn first_refusal(earlier: u32, later: u32) -> u32
+    ensures { λ r. ⌜ r ≡ cond (eqb earlier 0) later earlier ⌝ }
+{
+    if earlier == 0 { later } else { earlier }
+}
+
+// Tests the components one by one. repeat is the first whose id repeats.
 pub(crate) fn check_components(
     ids: &[u64],
     kinds: &[u8],
@@ -55,27 +85,12 @@ pub(crate) fn check_components(
 {
     let mut i = 0;
     while i < ids.len() {
-        if 12 < kinds[i] {
+        let range = range_refusal(kinds[i], delays[i], locked[i]);
+        let used = repeat_refusal(i, repeat);
+        let number = first_refusal(range, used);
+        if 0 < number {
             return Checked::Refused {
-                number: 4,
-                place: i as u64,
-            };
-        }
-        if 256 < delays[i] {
-            return Checked::Refused {
-                number: 4,
-                place: i as u64,
-            };
-        }
-        if 1 < locked[i] {
-            return Checked::Refused {
-                number: 4,
-                place: i as u64,
-            };
-        }
-        if i == repeat {
-            return Checked::Refused {
-                number: 3,
+                number: number,
                 place: i as u64,
             };
         }

@@ -1,7 +1,6 @@
 -- `collect` marks and groups what it reaches. The measure is the number of nodes not seen. Assumes nothing.
 use Prim.Native.Nat.{_-_}
 use mathlib.Core.Logic.{⊎-elim}
-use mathlib.Core.Path.{_∙_}
 use native.Mathlib.Omega.{arith}
 use borrow.Author.Needs.{needs}
 use lib.ListN.{length, length-set}
@@ -194,7 +193,7 @@ collect-same-length-2 t c =
     let a = c .before .before .before .before .before .before .before .before .args in
     let p = c .before .before .before .before .before .before .before .before .pre .1 in
     let l = c .before .loop in
-    length-set (l .group) (a .u) (a .root) ∙ kept-groups (p .0) (a .root) (a .u) (p .1) (p .2) _ (l .e) (l .inv)
+    simp length-set (kept-groups (p .0) (a .root) (a .u) (p .1) (p .2) _ (l .e) (l .inv))
 
 collect-returns :
     (t : ℕ) →

@@ -31,7 +31,7 @@ slice-write-marks : tie.Need-slice-write-marks Inv-loop μ-loop
 slice-write-marks c = omega (arith, c .before .before .before .loop .inv .size)
 
 slice-write-marks-2 : tie.Need-slice-write-marks-2 Inv-loop μ-loop
-slice-write-marks-2 c = rw length-set (marking-place _ _ _ _ (c .before .before .before .before .before .before .before .before .before .before .pre) (c .before .before .before .loop .inv) (c .before .before .loop-test .taken) (c .if1 .taken))
+slice-write-marks-2 c = simp length-set (omega (arith, c .before .before .before .loop .inv .size, marking-place _ _ _ _ (c .before .before .before .before .before .before .before .before .before .before .pre) (c .before .before .before .loop .inv) (c .before .before .loop-test .taken) (c .if1 .taken)))
 
 add-u : tie.Need-add-u Inv-loop μ-loop
 add-u c = search needs

@@ -100,9 +100,7 @@ visit-same-length t c =
 
 visit-same-length-2 :
     (t : ℕ) → visit-lts.Need-same-length-2 (walk-below t, walk.Post) (visit-at t) visit.Post
-visit-same-length-2 t c =
-    let w = c .before .before .before .before .walk in
-    length-set (w .last .1 .1 .1 .1 .0) (w .result) (c .before .before .before .before .before .before .before .before .before .before .before .before .before .before .before .args .u) ∙ w .kept .1 .1 .1 .1 .0
+visit-same-length-2 t c = simp length-set (c .before .before .before .before .walk .kept .1 .1 .1 .1 .0)
 
 visit-returns-2 :
     (t : ℕ) → visit-lts.Need-returns-2 (walk-below t, walk.Post) (visit-at t) visit.Post
