@@ -1,6 +1,6 @@
 -- From the groups to the marks. Assumes nothing.
-use mathlib.Core.Bool.{Bool, cond, not, _&&_}
-use mathlib.Core.List.{List, _++_, List·Memᴰ}
+use mathlib.Core.Bool.{cond, not, _&&_}
+use mathlib.Core.List.{List, _++_}
 use mathlib.Core.Logic.{_⊎_, inl, inr, ⊎-elim}
 use mathlib.Core.Path.{_≡_, sym, ap, subst, _∙_}
 use Prim.Native.Nat.{ℕ, _+_, _<_, _≤_}
@@ -9,9 +9,9 @@ use native.Mathlib.Omega.{arith}
 use lib.Dec.{T, T-not, not-T, eqb, eqb→eq}
 use lib.ListN.{length, getD, set, take, replicate, length-set, length-append, length-replicate}
 use lib.Seq.{getD-set-same, getD-set-other, ext-getD, take-at}
-use Rattle.rules.specs.Lists.{any, indices}
+use Rattle.rules.specs.Lists.{indices}
 use Rattle.rules.specs.Graph.{Edge, sharesComponent, sharedMarks}
-use Rattle.rules.proofs.Lists.{and-left, and-right, and-both, eq-test, same-test, chosen, not-chosen, any-in, any-out, any-same}
+use Rattle.rules.proofs.Lists.{and-left, and-right, and-both, eq-test, chosen, not-chosen, any-in, any-out, any-same}
 use Rattle.rules.proofs.Indices.{indices-below, below-indices, made-length, made-at}
 use Rattle.graph.specs.Groups.{Rooted, Grouped, sharesGroup, groupMarks}
 use Rattle.graph.proofs.Filled.{no-mark}

@@ -13,7 +13,8 @@ use Rattle.rules.specs.Scene.{Connection, ComponentLists, componentAt, componen
 use Rattle.rules.specs.Reasons.{passive, otherIn, inFeedback, feedback}
 use Rattle.rules.proofs.Lists.{chosen, not-chosen, any-same, any-map, keep-same, keep-map, keep-append}
 use Rattle.rules.proofs.Distinct.{Distinct}
-use Rattle.rules.proofs.Indices.{at-mem, indices-below, made-at, distinct-at}
+use Rattle.rules.proofs.Indices.{at-mem, indices-below, distinct-at}
+use Rattle.rules.proofs.SharedComponents.{marks-at}
 use Rattle.laws.proofs.Renaming.{named, Inside, same-named, connected-named}
 
 -- Edges by two lists of ends
@@ -152,8 +153,7 @@ module _ (l : ComponentLists) (distinct : Distinct (l .ids)) (es positions : Lis
 
 module _ (es : List Edge) (n : ℕ) (marks : List ℕ) (marked : marks ≡ sharedMarks es n) (i : ℕ) (h : i < n) where
   pub mark-at : getD marks i 0 ≡ cond (sharesComponent es n i) 1 0
-  unfolding sharedMarks
-  mark-at = ap (λ l. getD l i 0) marked ∙ made-at (λ v. cond (sharesComponent es n v) 1 0) n i 0 h
+  mark-at = ap (λ l. getD l i 0) marked ∙ marks-at es n i h
 
   pub mark-cases : (getD marks i 0 ≡ 1) ⊎ (getD marks i 0 ≡ 0)
   mark-cases = go (sharesComponent es n i) mark-at

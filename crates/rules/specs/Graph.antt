@@ -2,7 +2,7 @@
 use mathlib.Core.Bool.{Bool, not, cond, _&&_, _||_}
 use mathlib.Core.List.{List, [], _∷_, map, List·Memᴰ}
 use mathlib.Core.Path.{_≡_}
-use Prim.Native.Nat.{ℕ}
+use Prim.Native.Nat.{ℕ, _<_}
 use lib.Dec.{eqb}
 use Rattle.rules.specs.Lists.{any, count, indices}
 
@@ -78,3 +78,11 @@ OnCycle es u = (w : ℕ) × List·Memᴰ (u ⟶ w) es × Walk es w u
 -- on no cycle and not reachable from one
 abbrev pub Settled : List Edge → ℕ → Type 0
 Settled es v = (u : ℕ) → OnCycle es u → Walk es u v → ⊥
+
+-- of the nodes 0 to n - 1, a different one is reached from v and leads back to it
+pub record OtherInComponent (es : List Edge) (n v : ℕ) : Type 0 where
+  pub other : ℕ
+  pub node : other < n
+  pub different : other ≡ v → ⊥
+  pub there : Walk es v other
+  pub back : Walk es other v

@@ -1,27 +1,23 @@
 -- The tests of connections, step by step. Assumes nothing.
-use mathlib.Core.Bool.{Bool, true, false, not}
 use mathlib.Core.List.{List, [], _∷_, _++_, map, map-append, Memᴰ·cast}
 use mathlib.Core.Path.{_≡_, refl, sym, ap, subst, _∙_}
-use mathlib.Core.Logic.{_⊎_, inl, inr}
-use Prim.Native.Nat.{ℕ, zero, suc, _+_, _<_, _≤_}
+use Prim.Native.Nat.{ℕ, suc, _+_, _<_, _≤_}
 use native.Mathlib.Omega.{arith}
 use native.Mathlib.Nat.{add-zero}
-use lib.Dec.{T, T-not, not-T, eqb, eqb→eq, ltb, lt→ltb}
-use lib.ListN.{length, getD, take, set, length-set}
+use lib.Dec.{T, T-not, not-T, eqb, eqb→eq, lt→ltb}
+use lib.ListN.{length, getD, take, set}
 use lib.Seq.{take-set-le, take-suc-set, length-take-le}
 use Rattle.rules.specs.Lists.{any, from, indices}
-use Rattle.rules.specs.Ordered.{ordered, positionOf}
+use Rattle.rules.specs.Ordered.{positionOf}
 use Rattle.rules.specs.Graph.{edgesBetween}
 use Rattle.rules.specs.Scene.{Connection, ConnectionLists, connectionLists, connectionAt, connectionsOf, isEdge, edgesOf}
 use Rattle.rules.specs.Refusals.{firstRefusal, badTransfer, endMissing, connectionTests}
-use Rattle.rules.specs.declared.answers.Checked.{Checked}
 use Rattle.rules.specs.declared.answers.Checked.the-variants.{Accepted, Refused}
-use Rattle.rules.specs.declared.positions.Found.{Found}
 use Rattle.rules.specs.declared.positions.Found.the-variants.{At, Missing}
 use Rattle.rules.proofs.Lists.{tests, and-left, eq-test}
 use Rattle.rules.proofs.Indices.{indices-more, at-mem}
 use Rattle.rules.proofs.Ordering.{position→first, missing→not-any}
-use Rattle.rules.proofs.Acceptance.{ConnectionFits, ends-known-test, transfer-fits-test}
+use Rattle.rules.proofs.Acceptance.{ends-known-test}
 use Rattle.rules.proofs.FirstRefusal.{stop, more, end, within, not-both, rows, rows-start, rows-more, rows-stop}
 use Rattle.laws.proofs.PositionEdges.{Positioned, positioned-start, positioned-edge, positioned-support, edgesBetween-append}
 use Rattle.scene.specs.Ends.{connection, idsAlone, LookedUp, bad-transfer, end-missing, support, edge, EndsFound}

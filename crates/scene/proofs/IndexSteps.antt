@@ -1,33 +1,30 @@
 -- A scene tested and indexed, step by step. Assumes nothing.
-use mathlib.Core.Bool.{Bool, true, false, cond}
+use mathlib.Core.Bool.{Bool}
 use mathlib.Core.List.{List, [], _++_, List·Memᴰ·head, List·Memᴰ·tail}
 use mathlib.Core.Path.{_≡_, refl, sym, ap, ap₂, subst, fun-ext, _∙_}
 use Prim.Native.Nat.{ℕ, _≤_}
-use native.Mathlib.Omega.{arith}
 use lib.Dec.{T, leb, le→leb}
 use lib.ListN.{length, take}
-use lib.Seq.{take-at}
 use Rattle.rules.specs.Lists.{written}
 use Rattle.rules.specs.Ordered.{ordered}
 use Rattle.rules.specs.Scene.{ComponentLists, componentLists, ConnectionLists, componentAt}
 use Rattle.rules.specs.Refusals.{Test, Output, SceneLimits, sceneLimits, firstRefusal, outOfRange, componentTests, connectionTests, sizeTests, sceneTests, checkScene}
 use Rattle.rules.specs.declared.answers.Checked.{Checked}
 use Rattle.rules.specs.declared.answers.Checked.the-variants.{Accepted, Refused}
-use Rattle.rules.proofs.Lists.{and-both, chosen, same-test}
-use Rattle.rules.proofs.Ordering.{ordered-length}
-use Rattle.rules.proofs.Written.{written-parts}
+use Rattle.rules.proofs.Lists.{and-both, chosen}
+use Rattle.rules.proofs.Ordering.{ordered-front}
 use Rattle.rules.proofs.FirstRefusal.{rows, skip, stay, not-both, at-most, none-holds}
 use Rattle.rules.proofs.Acceptance.{aligned-components, aligned-connections}
 use Rattle.order.specs.Sorted.{sortFits, SortedPositions}
 use Rattle.scene.specs.Ends.{idsAlone, EndsFound}
-use Rattle.scene.specs.Indexed.{Sized, Positions, RowsIndexed, Indexed}
+use Rattle.scene.specs.Indexed.{Sized, RowsIndexed, Indexed}
 
 -- a sort with room for every position writes them all
 pub sorted-front : (keys order scratch order′ scratch′ : List ℕ) (r : Bool) → length keys ≤ length order → length keys ≤ length scratch → SortedPositions keys order scratch order′ scratch′ r
     → take (length keys) order′ ≡ ordered keys
 unfolding sortFits
 sorted-front keys order scratch order′ scratch′ r h k s =
-    ap (take (length keys)) (s .positions ∙ chosen (written order (ordered keys)) order r fits ∙ written-parts order (ordered keys)) ∙ take-at (ordered keys) _ (length keys) (ordered-length keys)
+    ap (take (length keys)) (s .positions ∙ chosen (written order (ordered keys)) order r fits) ∙ ordered-front keys order
   where
     fits : T r
     fits = subst T (sym (s .answer)) (and-both (leb (length keys) (length order)) _ (le→leb (length keys) (length order) h) (le→leb (length keys) (length scratch) k))

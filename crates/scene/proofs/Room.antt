@@ -1,21 +1,21 @@
 -- The tests of lengths, step by step. Assumes nothing.
-use mathlib.Core.Bool.{Bool, true, false, not}
-use mathlib.Core.List.{List, [], _∷_, map}
-use mathlib.Core.Path.{_≡_, refl, sym, ap, subst, _∙_}
-use mathlib.Core.Logic.{_⊎_, inl, inr, ⊎-elim}
+use mathlib.Core.Bool.{true, false, not}
+use mathlib.Core.List.{List, [], _∷_}
+use mathlib.Core.Path.{_≡_, refl, sym, ap, _∙_}
+use mathlib.Core.Logic.{_⊎_, inl, inr}
 use Prim.Native.Nat.{ℕ, zero, suc, _+_, _-_, _*_, _<_, _≤_}
 use native.Mathlib.Omega.{arith}
-use lib.Dec.{T, T-not, not-T, eqb, eqb→eq, ltb, lt→ltb, ltb→lt}
+use lib.Dec.{T, T-not, not-T, eqb, eqb→eq, ltb, lt→ltb}
 use lib.ListN.{length, getD, drop, List·getD-eq-default, drop-of-length-le}
 use lib.Seq.{drop-cons}
 use Rattle.rules.specs.Lists.{any}
-use Rattle.rules.specs.Refusals.{test, firstRefusal, lengthsDiffer, needOf, outputsFrom, outputTest}
+use Rattle.rules.specs.Refusals.{test, firstRefusal, lengthsDiffer, needOf}
 use Rattle.rules.specs.declared.answers.Checked.{Checked}
 use Rattle.rules.specs.declared.answers.Checked.the-variants.{Accepted, Refused}
 use Rattle.rules.proofs.Lists.{any-in, any-out, or-none, or-left, eq-test, same-test}
 use Rattle.rules.proofs.Indices.{at-mem, mem-at}
 use Rattle.rules.proofs.Sums.{order}
-use Rattle.rules.proofs.FirstRefusal.{stop, more, end, within, accepted-if, none-map}
+use Rattle.rules.proofs.FirstRefusal.{stop, more, end, within}
 use Rattle.scene.specs.Room.{roomTests}
 
 -- the lengths before i are the first one

@@ -1,30 +1,28 @@
 -- What is listed by positions is list 4. Assumes nothing.
 use mathlib.Core.Bool.{Bool, true, false, not, cond, _&&_}
-use mathlib.Core.List.{List, [], _∷_, map, List·Memᴰ, List·Memᴰ·head}
-use mathlib.Core.Path.{_≡_, refl, sym, ap, subst, _∙_}
+use mathlib.Core.List.{List, [], _∷_, map, List·Memᴰ·head}
+use mathlib.Core.Path.{_≡_, refl, sym, ap, _∙_}
 use Prim.Native.Nat.{ℕ, _<_, _≤_}
 use native.Mathlib.Omega.{arith}
-use lib.Dec.{T, eqb}
+use lib.Dec.{eqb}
 use lib.ListN.{length, getD, take}
 use lib.Seq.{length-take-le}
-use Rattle.rules.specs.Lists.{keep, indices, written}
+use Rattle.rules.specs.Lists.{indices, written}
 use Rattle.rules.specs.Graph.{Edge, edgesBetween, sharesComponent, sharedMarks}
-use Rattle.rules.specs.Scene.{ComponentLists, ConnectionLists, componentAt, componentsOf, connectionsOf, edgesOf, rowOf, sceneOf, edges}
+use Rattle.rules.specs.Scene.{ComponentLists, ConnectionLists, componentAt, componentsOf, connectionsOf, edgesOf, rowOf, sceneOf}
 use Rattle.rules.specs.Kinds.{kindRow}
 use Rattle.rules.specs.Reasons.{passive, feedback, feedbackReason}
 use Rattle.rules.specs.Feedback.{checkFeedback, feedbackAnswer, FeedbackCall}
 use Rattle.rules.specs.Refusals.{Output, sceneLimits, after, checkScene}
-use Rattle.rules.specs.declared.answers.Checked.{Checked}
 use Rattle.rules.specs.declared.answers.Checked.the-variants.{Accepted, Refused}
-use Rattle.rules.specs.declared.answers.FeedbackAnswer.{FeedbackAnswer}
 use Rattle.rules.specs.declared.answers.FeedbackAnswer.the-variants as Answer
 use Rattle.rules.proofs.Lists.{keep-same}
 use Rattle.rules.proofs.Distinct.{Distinct}
 use Rattle.rules.proofs.Indices.{indices-below}
 use Rattle.rules.proofs.Acceptance.{AcceptedScene, accepted→}
 use Rattle.laws.proofs.PositionEdges.{Positioned, feedback-by-position, mark-at}
-use Rattle.scene.specs.Indexed.{Positions, Indexed}
-use Rattle.scene.specs.Loops.{onLoop, loopIds, sharedIds, Linked}
+use Rattle.scene.specs.Indexed.{Positions}
+use Rattle.scene.specs.Loops.{loopIds, sharedIds, Linked}
 use Rattle.scene.specs.Room.{roomOutputs}
 
 mark-set : (b : Bool) → not (eqb (cond b 1 0) 0) ≡ b

@@ -1,8 +1,8 @@
 -- The tests of lengths in their order. Assumes nothing.
-use mathlib.Core.List.{List, [], _∷_, map}
+use mathlib.Core.List.{List, map}
 use mathlib.Core.Bool.{Bool, true, false}
 use mathlib.Core.Path.{_≡_, sym, subst, _∙_}
-use Prim.Native.Nat.{ℕ, _<_, _≤_}
+use Prim.Native.Nat.{_<_, _≤_}
 use lib.Dec.{T, ltb, lt→ltb}
 use lib.ListN.{length}
 use Rattle.rules.specs.Scene.{ComponentLists, ConnectionLists}

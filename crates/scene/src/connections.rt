@@ -1,7 +1,5 @@
 // The tests of connections, one by one: 5, then 6; and the positions of the edges' ends, each looked up once.
 ghost use mathlib.Core.Path.{_≡_};
-ghost use Prim.Native.Nat.{_≤_};
-ghost use lib.ListN.{length};
 ghost use Rattle.rules.specs.Ordered.{ordered};
 ghost use Rattle.rules.specs.Scene.{connectionLists};
 ghost use Rattle.scene.specs.Ends.{Joined, LookedUp, EndsFound, connection};

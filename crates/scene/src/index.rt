@@ -4,7 +4,7 @@ ghost use Prim.Native.Nat.{_≤_};
 ghost use lib.ListN.{length, take};
 ghost use Rattle.rules.specs.Ordered.{ordered};
 ghost use Rattle.rules.specs.Scene.{componentLists, connectionLists};
-ghost use Rattle.rules.specs.Refusals.{sceneLimits, checkScene};
+ghost use Rattle.rules.specs.Refusals.{sceneLimits};
 ghost use Rattle.scene.specs.Room.{roomOutputs};
 ghost use Rattle.scene.specs.Indexed.{Sized, Indexed, RowsIndexed, IndexRoom};
 use crate::components::check_components;

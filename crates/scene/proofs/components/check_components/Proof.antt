@@ -9,11 +9,6 @@ use Rattle.rules.proofs.FirstRefusal.{rows-start}
 use Rattle.scene.proofs.ComponentSteps.{lists, AcceptedBelow, component-refused, next-component, not-repeated}
 use Rattle.scene.proofs.components.check_components.Statement.{statement}
 use Rattle.scene.proofs.components.check_components.Tie as tie
-use Rattle.scene.proofs.components.check_components.Reads as reads
-use Rattle.scene.proofs.components.check_components.Lts as lts
-use Rattle.scene.proofs.components.first_refusal.Reads as first-refusal-reads
-use Rattle.scene.proofs.components.range_refusal.Reads as range-refusal-reads
-use Rattle.scene.proofs.components.repeat_refusal.Reads as repeat-refusal-reads
 
 abbrev Inv-loop : tie.InvT-loop
 Inv-loop ids kinds delays locked repeat i₀ i = AcceptedBelow ids kinds delays locked i × (i ≤ length ids) × (i ≤ repeat)

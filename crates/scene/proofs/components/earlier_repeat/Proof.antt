@@ -5,8 +5,6 @@ use Rattle.scene.proofs.Repeats.{takes-later, keeps-first, keeps-other}
 use borrow.Author.Needs.{needs}
 use Rattle.scene.proofs.components.earlier_repeat.Statement.{statement}
 use Rattle.scene.proofs.components.earlier_repeat.Tie as tie
-use Rattle.scene.proofs.components.earlier_repeat.Reads as reads
-use Rattle.scene.proofs.components.earlier_repeat.Lts as lts
 
 -- src/components.rt:20:8
 mul-if1 : tie.Need-mul-if1

@@ -4,14 +4,10 @@ use mathlib.Core.Path.{_≡_, sym, ap, subst}
 use Prim.Native.Nat.{_-_, _≤_, _<_}
 use lib.ListN.{length, getD}
 use borrow.Author.Needs.{needs}
-use Rattle.rules.specs.Ordered.{ordered}
 use Rattle.rules.proofs.Ordering.{ordered-length, ordered-below}
 use Rattle.scene.proofs.Repeats.{RepeatBelow, repeat-start, repeat-more, repeat-end}
 use Rattle.scene.proofs.components.first_repeat.Statement.{statement}
 use Rattle.scene.proofs.components.first_repeat.Tie as tie
-use Rattle.scene.proofs.components.first_repeat.Reads as reads
-use Rattle.scene.proofs.components.first_repeat.Lts as lts
-use Rattle.scene.proofs.components.earlier_repeat.Reads as earlier-repeat-reads
 
 abbrev Inv-loop : tie.InvT-loop
 Inv-loop ids order first₀ k₀ first k = RepeatBelow ids k first × (1 ≤ k) × (length order ≡ length ids)

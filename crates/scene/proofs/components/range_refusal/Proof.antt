@@ -3,8 +3,6 @@ use native.Mathlib.Omega.{arith}
 use Rattle.scene.proofs.ComponentSteps.{kind-out, delay-out, locked-out, none-out}
 use Rattle.scene.proofs.components.range_refusal.Statement.{statement}
 use Rattle.scene.proofs.components.range_refusal.Tie as tie
-use Rattle.scene.proofs.components.range_refusal.Reads as reads
-use Rattle.scene.proofs.components.range_refusal.Lts as lts
 
 -- src/components.rt:50:9
 returns : tie.Need-returns

@@ -4,8 +4,6 @@ use lib.Dec.{eqb, eqb→eq}
 use Rattle.rules.proofs.Lists.{chosen, not-chosen, eq-test}
 use Rattle.scene.proofs.components.repeat_refusal.Statement.{statement}
 use Rattle.scene.proofs.components.repeat_refusal.Tie as tie
-use Rattle.scene.proofs.components.repeat_refusal.Reads as reads
-use Rattle.scene.proofs.components.repeat_refusal.Lts as lts
 
 -- src/components.rt:62:1
 returns : tie.Need-returns

@@ -1,14 +1,11 @@
 -- Assumes nothing.
 use native.Mathlib.Omega.{arith}
-use mathlib.Core.Path.{_≡_, sym, _∙_}
+use mathlib.Core.Path.{sym, _∙_}
 use borrow.Author.Needs.{needs}
 use Rattle.scene.proofs.ConnectionSteps.{refused-transfer, a-support, no-source, no-sink, both-ends}
 use borrow.Author.Needs.{needs}
 use Rattle.scene.proofs.connections.look_up.Statement.{statement}
 use Rattle.scene.proofs.connections.look_up.Tie as tie
-use Rattle.scene.proofs.connections.look_up.Reads as reads
-use Rattle.scene.proofs.connections.look_up.Lts as lts
-use Rattle.order.proofs.search.find_position.Reads as find-position-reads
 
 -- src/connections.rt:26:9
 returns : tie.Need-returns

@@ -1,15 +1,12 @@
 -- Assumes nothing.
 use native.Mathlib.Omega.{arith}
-use mathlib.Core.Path.{_≡_, refl, sym, ap, subst, _∙_}
-use Prim.Native.Nat.{_-_, _≤_, _<_}
-use lib.ListN.{length, getD, length-set}
+use mathlib.Core.Path.{_≡_, refl, _∙_}
+use Prim.Native.Nat.{_-_, _≤_}
+use lib.ListN.{length, length-set}
 use borrow.Author.Needs.{needs}
 use Rattle.scene.proofs.ConnectionSteps.{EndsBelow, ends-start, ends-more, ends-refused, ends-all, one-at-most}
 use Rattle.scene.proofs.connections.look_up_ends.Statement.{statement}
 use Rattle.scene.proofs.connections.look_up_ends.Tie as tie
-use Rattle.scene.proofs.connections.look_up_ends.Reads as reads
-use Rattle.scene.proofs.connections.look_up_ends.Lts as lts
-use Rattle.scene.proofs.connections.look_up.Reads as look-up-reads
 
 abbrev Inv-loop : tie.InvT-loop
 Inv-loop ids order sources sinks transfers starts₀ stops₀ e₀ j₀ starts stops e j = EndsBelow ids sources sinks transfers j e starts stops × (j ≤ length sources) × (length starts ≡ length starts₀) × (length stops ≡ length stops₀)

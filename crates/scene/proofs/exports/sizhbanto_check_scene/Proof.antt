@@ -1,13 +1,10 @@
 -- Assumes nothing.
-use mathlib.Core.Path.{_≡_, refl, sym, ap, _∙_}
+use mathlib.Core.Path.{sym, ap, _∙_}
 use borrow.Author.Needs.{needs}
 use Rattle.rules.specs.Refusals.{refusalNumber, refusalPlace}
 use borrow.Author.Needs.{needs}
 use Rattle.scene.proofs.exports.sizhbanto_check_scene.Statement.{statement}
 use Rattle.scene.proofs.exports.sizhbanto_check_scene.Tie as tie
-use Rattle.scene.proofs.exports.sizhbanto_check_scene.Reads as reads
-use Rattle.scene.proofs.exports.sizhbanto_check_scene.Lts as lts
-use Rattle.scene.proofs.check.check_scene.Reads as check-scene-reads
 
 -- src/exports.rt:41:9
 check-scene-requires : tie.Need-check-scene-requires

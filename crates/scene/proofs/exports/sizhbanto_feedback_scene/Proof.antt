@@ -1,13 +1,10 @@
 -- Assumes nothing.
-use mathlib.Core.Path.{_≡_, refl, sym, ap, _∙_}
+use mathlib.Core.Path.{sym, ap}
 use borrow.Author.Needs.{needs}
 use Rattle.rules.specs.Feedback.{feedbackNumbers}
 use borrow.Author.Needs.{needs}
 use Rattle.scene.proofs.exports.sizhbanto_feedback_scene.Statement.{statement}
 use Rattle.scene.proofs.exports.sizhbanto_feedback_scene.Tie as tie
-use Rattle.scene.proofs.exports.sizhbanto_feedback_scene.Reads as reads
-use Rattle.scene.proofs.exports.sizhbanto_feedback_scene.Lts as lts
-use Rattle.scene.proofs.feedback.feedback_scene.Reads as feedback-scene-reads
 
 -- src/exports.rt:90:9
 feedback-scene-requires : tie.Need-feedback-scene-requires

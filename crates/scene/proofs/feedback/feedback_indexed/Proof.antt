@@ -1,8 +1,7 @@
 -- Assumes nothing.
 use native.Mathlib.Omega.{arith}
 use mathlib.Core.List.{[], _∷_}
-use mathlib.Core.Path.{_≡_, refl, sym, ap, subst, _∙_}
-use Prim.Native.Nat.{_≤_}
+use mathlib.Core.Path.{sym, _∙_}
 use borrow.Author.Needs.{needs}
 use lib.ListN.{length}
 use lib.Seq.{length-take-le}
@@ -14,11 +13,6 @@ use Rattle.scene.proofs.SceneLoops.{accepted-linked, accepted-room, cal
 use borrow.Author.Needs.{needs}
 use Rattle.scene.proofs.feedback.feedback_indexed.Statement.{statement}
 use Rattle.scene.proofs.feedback.feedback_indexed.Tie as tie
-use Rattle.scene.proofs.feedback.feedback_indexed.Reads as reads
-use Rattle.scene.proofs.feedback.feedback_indexed.Lts as lts
-use Rattle.scene.proofs.feedback.active_feedback_components.Reads as active-feedback-components-reads
-use Rattle.scene.proofs.feedback.feedback_reasons.Reads as feedback-reasons-reads
-use Rattle.scene.proofs.index.index_scene.Reads as index-scene-reads
 
 -- src/feedback.rt:170:9
 slice-aggregate-index-scene : tie.Need-slice-aggregate-index-scene

@@ -3,8 +3,6 @@ use native.Mathlib.Omega.{arith}
 use Rattle.scene.proofs.LoopSteps.{one-reason, no-reason}
 use Rattle.scene.proofs.feedback.feedback_reasons.Statement.{statement}
 use Rattle.scene.proofs.feedback.feedback_reasons.Tie as tie
-use Rattle.scene.proofs.feedback.feedback_reasons.Reads as reads
-use Rattle.scene.proofs.feedback.feedback_reasons.Lts as lts
 
 -- src/feedback.rt:124:1
 returns : tie.Need-returns

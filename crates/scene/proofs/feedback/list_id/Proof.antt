@@ -3,8 +3,6 @@ use mathlib.Core.Path.{refl}
 use borrow.Author.Needs.{needs}
 use Rattle.scene.proofs.feedback.list_id.Statement.{statement}
 use Rattle.scene.proofs.feedback.list_id.Tie as tie
-use Rattle.scene.proofs.feedback.list_id.Reads as reads
-use Rattle.scene.proofs.feedback.list_id.Lts as lts
 
 -- src/feedback.rt:42:9
 mul-list : tie.Need-mul-list

@@ -1,18 +1,14 @@
 -- Assumes nothing.
 use native.Mathlib.Omega.{arith}
-use mathlib.Core.Path.{_≡_, refl, sym, ap, subst, _∙_}
-use Prim.Native.Nat.{_-_, _≤_, _<_}
-use lib.ListN.{length, getD}
+use mathlib.Core.Path.{_≡_, refl, subst, _∙_}
+use Prim.Native.Nat.{_-_, _≤_}
+use lib.ListN.{length}
 use borrow.Author.Needs.{needs}
 use Rattle.rules.specs.Lists.{written}
 use Rattle.scene.specs.Loops.{loopIds}
 use Rattle.scene.proofs.LoopSteps.{LoopsBelow, loops-start, loops-more}
 use Rattle.scene.proofs.feedback.list_marked.Statement.{statement}
 use Rattle.scene.proofs.feedback.list_marked.Tie as tie
-use Rattle.scene.proofs.feedback.list_marked.Reads as reads
-use Rattle.scene.proofs.feedback.list_marked.Lts as lts
-use Rattle.scene.proofs.feedback.list_id.Reads as list-id-reads
-use Rattle.scene.proofs.feedback.on_loop.Reads as on-loop-reads
 
 abbrev Inv-loop : tie.InvT-loop
 Inv-loop ids kinds marks feedback-ids₀ count₀ i₀ feedback-ids count i = LoopsBelow ids kinds marks feedback-ids₀ i feedback-ids count × (i ≤ length ids) × (length feedback-ids ≡ length feedback-ids₀)

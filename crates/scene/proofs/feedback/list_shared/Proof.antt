@@ -1,6 +1,5 @@
 -- Assumes nothing.
-use native.Mathlib.Omega.{arith}
-use mathlib.Core.Path.{_≡_, refl, sym, ap, subst, _∙_}
+use mathlib.Core.Path.{refl, sym, ap, subst, _∙_}
 use borrow.Author.Needs.{needs}
 use lib.ListN.{length}
 use lib.Seq.{length-take-le}
@@ -10,10 +9,6 @@ use Rattle.scene.proofs.LoopSteps.{written-front, front-room, shared-li
 use borrow.Author.Needs.{needs}
 use Rattle.scene.proofs.feedback.list_shared.Statement.{statement}
 use Rattle.scene.proofs.feedback.list_shared.Tie as tie
-use Rattle.scene.proofs.feedback.list_shared.Reads as reads
-use Rattle.scene.proofs.feedback.list_shared.Lts as lts
-use Rattle.scene.proofs.feedback.list_marked.Reads as list-marked-reads
-use Rattle.scene.proofs.feedback.mark_positions.Reads as mark-positions-reads
 
 -- src/feedback.rt:103:35
 slice-relend-prefix-mark-positions : tie.Need-slice-relend-prefix-mark-positions

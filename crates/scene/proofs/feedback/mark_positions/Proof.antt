@@ -5,9 +5,6 @@ use Rattle.scene.proofs.LoopSteps.{marks-shared}
 use borrow.Author.Needs.{needs}
 use Rattle.scene.proofs.feedback.mark_positions.Statement.{statement}
 use Rattle.scene.proofs.feedback.mark_positions.Tie as tie
-use Rattle.scene.proofs.feedback.mark_positions.Reads as reads
-use Rattle.scene.proofs.feedback.mark_positions.Lts as lts
-use Rattle.graph.proofs.mark_shared_components.Reads as mark-shared-components-reads
 
 -- src/feedback.rt:32:9
 slice-aggregate-mark-shared-components : tie.Need-slice-aggregate-mark-shared-components

@@ -5,9 +5,6 @@ use Rattle.scene.proofs.LoopSteps.{without-mark, by-node}
 use borrow.Author.Needs.{needs}
 use Rattle.scene.proofs.feedback.on_loop.Statement.{statement}
 use Rattle.scene.proofs.feedback.on_loop.Tie as tie
-use Rattle.scene.proofs.feedback.on_loop.Reads as reads
-use Rattle.scene.proofs.feedback.on_loop.Lts as lts
-use Rattle.tables.proofs.kinds.kind_row.Reads as kind-row-reads
 
 -- src/feedback.rt:20:9
 returns : tie.Need-returns

@@ -1,6 +1,6 @@
 -- Assumes nothing.
 use native.Mathlib.Omega.{arith}
-use mathlib.Core.Path.{_≡_, sym, _∙_}
+use mathlib.Core.Path.{sym}
 use borrow.Author.Needs.{needs}
 use lib.ListN.{length}
 use lib.Seq.{length-take-le}
@@ -8,12 +8,6 @@ use Rattle.scene.proofs.IndexSteps.{components-refused, ends-indexed}
 use borrow.Author.Needs.{needs}
 use Rattle.scene.proofs.index.index_rows.Statement.{statement}
 use Rattle.scene.proofs.index.index_rows.Tie as tie
-use Rattle.scene.proofs.index.index_rows.Reads as reads
-use Rattle.scene.proofs.index.index_rows.Lts as lts
-use Rattle.scene.proofs.components.check_components.Reads as check-components-reads
-use Rattle.scene.proofs.components.first_repeat.Reads as first-repeat-reads
-use Rattle.scene.proofs.connections.look_up_ends.Reads as look-up-ends-reads
-use Rattle.scene.proofs.index.order_ids.Reads as order-ids-reads
 
 -- src/index.rt:46:5
 order-ids-requires : tie.Need-order-ids-requires

@@ -1,5 +1,5 @@
 -- Assumes nothing.
-use mathlib.Core.Path.{_≡_, sym, _∙_}
+use mathlib.Core.Path.{sym, _∙_}
 use borrow.Author.Needs.{needs}
 use lib.ListN.{length}
 use Rattle.rules.specs.Scene.{componentLists, connectionLists}
@@ -8,10 +8,6 @@ use Rattle.scene.proofs.IndexSteps.{sized, sizes-refused, rows-indexed}
 use borrow.Author.Needs.{needs}
 use Rattle.scene.proofs.index.index_scene.Statement.{statement}
 use Rattle.scene.proofs.index.index_scene.Tie as tie
-use Rattle.scene.proofs.index.index_scene.Reads as reads
-use Rattle.scene.proofs.index.index_scene.Lts as lts
-use Rattle.scene.proofs.index.index_rows.Reads as index-rows-reads
-use Rattle.scene.proofs.sizes.check_sizes.Reads as check-sizes-reads
 
 -- src/index.rt:89:9
 check-sizes-requires : tie.Need-check-sizes-requires

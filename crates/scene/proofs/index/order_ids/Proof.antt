@@ -1,14 +1,10 @@
 -- Assumes nothing.
 use native.Mathlib.Omega.{arith}
 use borrow.Author.Needs.{needs}
-use lib.ListN.{length, length-replicate}
 use Rattle.scene.proofs.IndexSteps.{sorted-front}
 use borrow.Author.Needs.{needs}
 use Rattle.scene.proofs.index.order_ids.Statement.{statement}
 use Rattle.scene.proofs.index.order_ids.Tie as tie
-use Rattle.scene.proofs.index.order_ids.Reads as reads
-use Rattle.scene.proofs.index.order_ids.Lts as lts
-use Rattle.order.proofs.sort.sort_positions.Reads as sort-positions-reads
 
 -- src/index.rt:25:32
 slice-aggregate-sort-positions : tie.Need-slice-aggregate-sort-positions

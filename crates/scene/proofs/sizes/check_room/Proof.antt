@@ -7,9 +7,6 @@ use borrow.Author.Needs.{needs}
 use Rattle.scene.proofs.Room.{roomLeft, room-more, room-short, room-past, room-end}
 use Rattle.scene.proofs.sizes.check_room.Statement.{statement}
 use Rattle.scene.proofs.sizes.check_room.Tie as tie
-use Rattle.scene.proofs.sizes.check_room.Reads as reads
-use Rattle.scene.proofs.sizes.check_room.Lts as lts
-use Rattle.scene.proofs.sizes.need_of.Reads as need-of-reads
 
 abbrev Inv-loop : tie.InvT-loop
 Inv-loop n m first room list₀ k₀ list k = (roomLeft n m first 0 room ≡ roomLeft n m list k room) × (k ≤ length room)

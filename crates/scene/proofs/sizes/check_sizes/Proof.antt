@@ -9,10 +9,6 @@ use Rattle.scene.proofs.SizeSteps.{flag-set, flag-clear, components-dif
 use borrow.Author.Needs.{needs}
 use Rattle.scene.proofs.sizes.check_sizes.Statement.{statement}
 use Rattle.scene.proofs.sizes.check_sizes.Tie as tie
-use Rattle.scene.proofs.sizes.check_sizes.Reads as reads
-use Rattle.scene.proofs.sizes.check_sizes.Lts as lts
-use Rattle.scene.proofs.sizes.check_room.Reads as check-room-reads
-use Rattle.scene.proofs.sizes.lengths_differ.Reads as lengths-differ-reads
 
 -- src/sizes.rt:92:23
 slice-aggregate-lengths-differ : tie.Need-slice-aggregate-lengths-differ

@@ -6,8 +6,6 @@ use borrow.Author.Needs.{needs}
 use Rattle.scene.proofs.Room.{AlikeBelow, alike-more, alike-all, differ-at}
 use Rattle.scene.proofs.sizes.lengths_differ.Statement.{statement}
 use Rattle.scene.proofs.sizes.lengths_differ.Tie as tie
-use Rattle.scene.proofs.sizes.lengths_differ.Reads as reads
-use Rattle.scene.proofs.sizes.lengths_differ.Lts as lts
 
 abbrev Inv-loop : tie.InvT-loop
 Inv-loop lengths i₀ i = AlikeBelow i lengths × (i ≤ length lengths)

@@ -6,8 +6,6 @@ use Rattle.scene.proofs.Room.{past-lists}
 use borrow.Author.Needs.{needs}
 use Rattle.scene.proofs.sizes.need_of.Statement.{statement}
 use Rattle.scene.proofs.sizes.need_of.Tie as tie
-use Rattle.scene.proofs.sizes.need_of.Reads as reads
-use Rattle.scene.proofs.sizes.need_of.Lts as lts
 
 -- src/sizes.rt:34:14
 add-result : tie.Need-add-result
