@@ -1,8 +1,9 @@
 // The scene: its checks, its positions and what is said of it.
 pub mod check; // check.rt: the checks of a scene
-pub mod feedback; // feedback.rt: list 4 and the Feedback reason
+pub mod feedback; // feedback.rt: the call that writes list 4 alone
 pub mod exports; // exports.rt: the calls for C
 mod sizes; // sizes.rt: the tests of lengths, 8, 1, 2 and 7
 mod components; // components.rt: the tests of components, 4 and 3
 mod connections; // connections.rt: the tests of connections, 5 and 6, and the edges over positions
 mod index; // index.rt: a scene tested whole and indexed
+mod loops; // loops.rt: the components on a loop, from the edges over positions

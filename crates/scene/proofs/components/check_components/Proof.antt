@@ -16,55 +16,42 @@ Inv-loop ids kinds delays locked repeat i₀ i = AcceptedBelow ids kinds delays 
 abbrev μ-loop : tie.MeasureT-loop
 μ-loop ids kinds delays locked repeat i₀ i = length ids - i
 
--- src/components.rt:87:5
 loop-holds : tie.Need-loop-holds Inv-loop μ-loop
 loop-holds c = (rows-start (componentTests (lists (c .before .before .before .before .args .ids .now) (c .before .before .before .before .args .kinds .now) (c .before .before .before .before .args .delays .now) (c .before .before .before .before .args .locked .now))), omega arith, omega arith)
 
--- src/components.rt:88:35
 shared-slice-read-range-refusal : tie.Need-shared-slice-read-range-refusal Inv-loop μ-loop
 shared-slice-read-range-refusal c = omega (arith, c .before .before .before .before .before .before .before .pre .0 .kinds-length)
 
--- src/components.rt:88:45
 mul-range-refusal : tie.Need-mul-range-refusal Inv-loop μ-loop
 mul-range-refusal c = omega (arith, c .before .before .before .before .before .before .before .pre .0 .delays-length)
 
--- src/components.rt:88:45
 shared-slice-read-range-refusal-2 : tie.Need-shared-slice-read-range-refusal-2 Inv-loop μ-loop
 shared-slice-read-range-refusal-2 c = omega (arith, c .before .before .before .before .before .before .before .before .pre .0 .delays-length)
 
--- src/components.rt:88:56
 shared-slice-read-range-refusal-3 : tie.Need-shared-slice-read-range-refusal-3 Inv-loop μ-loop
 shared-slice-read-range-refusal-3 c = omega (arith, c .before .before .before .before .before .before .before .before .before .pre .0 .locked-length)
 
--- src/components.rt:88:13
 range-refusal-requires : tie.Need-range-refusal-requires Inv-loop μ-loop
 range-refusal-requires c κs = search needs
 
--- src/components.rt:89:13
 repeat-refusal-requires : tie.Need-repeat-refusal-requires Inv-loop μ-loop
 repeat-refusal-requires c κs = search needs
 
--- src/components.rt:90:13
 first-refusal-requires : tie.Need-first-refusal-requires Inv-loop μ-loop
 first-refusal-requires c κs = search needs
 
--- src/components.rt:92:13
 returns : tie.Need-returns Inv-loop μ-loop
 returns c = component-refused (c .before .before .before .before .before .before .before .before .before .before .before .before .before .args .ids .now) (c .before .before .before .before .before .before .before .before .before .before .before .before .before .args .kinds .now) (c .before .before .before .before .before .before .before .before .before .before .before .before .before .args .delays .now) (c .before .before .before .before .before .before .before .before .before .before .before .before .before .args .locked .now) (c .before .before .before .before .before .before .before .before .loop .i) (c .before .before .before .before .before .before .before .before .before .before .before .before .before .args .repeat) (c .before .before .before .range-refusal .result) (c .before .before .repeat-refusal .result) (c .before .first-refusal .result) (omega arith) (c .before .before .before .before .before .before .before .before .loop .inv .0) (c .before .before .before .before .before .before .before .before .before .before .before .before .before .pre .1) (c .before .before .before .before .before .before .before .before .loop .inv .2) (c .before .before .before .range-refusal .ensures) (c .before .before .repeat-refusal .ensures) (c .before .first-refusal .ensures) (c .if1 .taken)
 
--- src/components.rt:94:9
 add-i : tie.Need-add-i Inv-loop μ-loop
 add-i c = search needs
 
--- src/components.rt:87:5
 loop-less : tie.Need-loop-less Inv-loop μ-loop
 loop-less c = search needs
 
--- src/components.rt:87:5
 loop-again : tie.Need-loop-again Inv-loop μ-loop
 loop-again c = (next-component (c .before .before .before .before .before .before .before .before .before .before .before .before .before .args .ids .now) (c .before .before .before .before .before .before .before .before .before .before .before .before .before .args .kinds .now) (c .before .before .before .before .before .before .before .before .before .before .before .before .before .args .delays .now) (c .before .before .before .before .before .before .before .before .before .before .before .before .before .args .locked .now) (c .before .before .before .before .before .before .before .before .loop .i) (c .before .before .before .before .before .before .before .before .before .before .before .before .before .args .repeat) (c .before .before .before .range-refusal .result) (c .before .before .repeat-refusal .result) (c .before .first-refusal .result) (omega arith) (c .before .before .before .before .before .before .before .before .loop .inv .0) (c .before .before .before .before .before .before .before .before .before .before .before .before .before .pre .1) (c .before .before .before .before .before .before .before .before .loop .inv .2) (c .before .before .before .range-refusal .ensures) (c .before .before .repeat-refusal .ensures) (c .before .first-refusal .ensures) (omega (arith, c .if1 .left)), omega arith, omega (arith, not-repeated (c .before .before .before .before .before .before .before .before .before .before .before .before .before .args .ids .now) (c .before .before .before .before .before .before .before .before .before .before .before .before .before .args .kinds .now) (c .before .before .before .before .before .before .before .before .before .before .before .before .before .args .delays .now) (c .before .before .before .before .before .before .before .before .before .before .before .before .before .args .locked .now) (c .before .before .before .before .before .before .before .before .loop .i) (c .before .before .before .before .before .before .before .before .before .before .before .before .before .args .repeat) (c .before .before .before .range-refusal .result) (c .before .before .repeat-refusal .result) (c .before .first-refusal .result) (omega arith) (c .before .before .before .before .before .before .before .before .loop .inv .0) (c .before .before .before .before .before .before .before .before .before .before .before .before .before .pre .1) (c .before .before .before .before .before .before .before .before .loop .inv .2) (c .before .before .before .range-refusal .ensures) (c .before .before .repeat-refusal .ensures) (c .before .first-refusal .ensures) (omega (arith, c .if1 .left))))
 
--- src/components.rt:76:1
 returns-2 : tie.Need-returns-2 Inv-loop μ-loop
 returns-2 c = subst (λ n. AcceptedBelow (c .before .before .before .before .before .before .args .ids .now) (c .before .before .before .before .before .before .args .kinds .now) (c .before .before .before .before .before .before .args .delays .now) (c .before .before .before .before .before .before .args .locked .now) n) (omega arith) (c .before .loop .inv .0)
 

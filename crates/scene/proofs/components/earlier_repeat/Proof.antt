@@ -6,31 +6,24 @@ use borrow.Author.Needs.{needs}
 use Rattle.scene.proofs.components.earlier_repeat.Statement.{statement}
 use Rattle.scene.proofs.components.earlier_repeat.Tie as tie
 
--- src/components.rt:20:8
 mul-if1 : tie.Need-mul-if1
 mul-if1 c = search needs
 
--- src/components.rt:20:8
 shared-slice-read-if1 : tie.Need-shared-slice-read-if1
 shared-slice-read-if1 c = search needs
 
--- src/components.rt:20:18
 mul-if1-2 : tie.Need-mul-if1-2
 mul-if1-2 c = search needs
 
--- src/components.rt:20:18
 shared-slice-read-if1-2 : tie.Need-shared-slice-read-if1-2
 shared-slice-read-if1-2 c = search needs
 
--- src/components.rt:22:13
 returns : tie.Need-returns
 returns c = takes-later (getD (c .before .before .before .before .args .ids .now) (c .before .before .before .before .args .p) 0) (getD (c .before .before .before .before .args .ids .now) (c .before .before .before .before .args .q) 0) (c .before .before .before .before .args .q) (c .before .before .before .before .args .first) (c .before .if1 .taken) (c .if2 .taken)
 
--- src/components.rt:16:1
 returns-2 : tie.Need-returns-2
 returns-2 c = keeps-first (getD (c .before .before .before .before .args .ids .now) (c .before .before .before .before .args .p) 0) (getD (c .before .before .before .before .args .ids .now) (c .before .before .before .before .args .q) 0) (c .before .before .before .before .args .q) (c .before .before .before .before .args .first) (c .before .if1 .taken) (omega (arith, c .if2 .left))
 
--- src/components.rt:16:1
 returns-3 : tie.Need-returns-3
 returns-3 c = keeps-other (getD (c .before .before .before .args .ids .now) (c .before .before .before .args .p) 0) (getD (c .before .before .before .args .ids .now) (c .before .before .before .args .q) 0) (c .before .before .before .args .q) (c .before .before .before .args .first) (c .if1 .left)
 

@@ -7,47 +7,36 @@ use borrow.Author.Needs.{needs}
 use Rattle.scene.proofs.connections.look_up.Statement.{statement}
 use Rattle.scene.proofs.connections.look_up.Tie as tie
 
--- src/connections.rt:26:9
 returns : tie.Need-returns
 returns c = refused-transfer (c .before .before .before .args .ids .now) (c .before .before .before .args .source) (c .before .before .before .args .sink) (c .before .before .before .args .transfer) (c .if1 .taken)
 
--- src/connections.rt:29:9
 returns-2 : tie.Need-returns-2
 returns-2 c = a-support (c .before .before .before .before .args .ids .now) (c .before .before .before .before .args .source) (c .before .before .before .before .args .sink) (c .before .before .before .before .args .transfer) (omega (arith, c .before .if1 .left)) (c .if2 .taken)
 
--- src/connections.rt:31:28
 find-position-requires : tie.Need-find-position-requires
 find-position-requires c κs = search needs
 
--- src/connections.rt:31:19
 enum-known-start : tie.Need-enum-known-start
 enum-known-start c = search needs
 
--- src/connections.rt:32:9
 enum-told : tie.Need-enum-told
 enum-told c = search needs
 
--- src/connections.rt:32:9
 returns-3 : tie.Need-returns-3
 returns-3 c = no-source (c .before .before .before .before .before .before .before .args .ids .now) (c .before .before .before .before .before .before .before .args .source) (c .before .before .before .before .before .before .before .args .sink) (c .before .before .before .before .before .before .before .args .transfer) (omega (arith, c .before .before .before .before .if1 .left)) (c .before .before .before .if2 .left) (sym (c .before .before .find-position .ensures .first (c .before .before .before .before .before .before .before .pre)) ∙ cc)
 
--- src/connections.rt:34:27
 find-position-requires-2 : tie.Need-find-position-requires-2
 find-position-requires-2 c κs = search needs
 
--- src/connections.rt:34:19
 enum-known-stop : tie.Need-enum-known-stop
 enum-known-stop c = search needs
 
--- src/connections.rt:35:9
 enum-told-2 : tie.Need-enum-told-2
 enum-told-2 c = search needs
 
--- src/connections.rt:35:9
 returns-4 : tie.Need-returns-4
 returns-4 c = no-sink (c .before .before .before .before .before .before .before .before .before .before .before .args .ids .now) (c .before .before .before .before .before .before .before .before .before .before .before .args .source) (c .before .before .before .before .before .before .before .before .before .before .before .args .sink) (c .before .before .before .before .before .before .before .before .before .before .before .args .transfer) (omega (arith, c .before .before .before .before .before .before .before .before .if1 .left)) (c .before .before .before .before .before .before .before .if2 .left) (sym (c .before .before .find-position2 .ensures .first (c .before .before .before .before .before .before .before .before .before .before .before .pre)) ∙ cc)
 
--- src/connections.rt:21:1
 returns-5 : tie.Need-returns-5
 returns-5 c = both-ends (c .before .before .before .before .before .before .before .before .before .before .before .before .args .ids .now) (c .before .before .before .before .before .before .before .before .before .before .before .before .args .source) (c .before .before .before .before .before .before .before .before .before .before .before .before .args .sink) (c .before .before .before .before .before .before .before .before .before .before .before .before .args .transfer) (omega (arith, c .before .before .before .before .before .before .before .before .before .if1 .left)) (c .before .before .before .before .before .before .before .before .if2 .left) _ _ (sym (c .before .before .before .before .before .before .before .find-position .ensures .first (c .before .before .before .before .before .before .before .before .before .before .before .before .pre)) ∙ cc) (sym (c .before .before .before .find-position2 .ensures .first (c .before .before .before .before .before .before .before .before .before .before .before .before .pre)) ∙ cc)
 

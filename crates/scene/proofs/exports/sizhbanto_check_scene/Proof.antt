@@ -6,23 +6,18 @@ use borrow.Author.Needs.{needs}
 use Rattle.scene.proofs.exports.sizhbanto_check_scene.Statement.{statement}
 use Rattle.scene.proofs.exports.sizhbanto_check_scene.Tie as tie
 
--- src/exports.rt:41:9
 check-scene-requires : tie.Need-check-scene-requires
 check-scene-requires c κs = search needs
 
--- src/exports.rt:56:30
 enum-told : tie.Need-enum-told
 enum-told c = search needs
 
--- src/exports.rt:57:28
 enum-known-checked : tie.Need-enum-known-checked
 enum-known-checked c = search needs
 
--- src/exports.rt:23:1
 returns : tie.Need-returns
 returns c = (ap refusalNumber (sym (c .enum-told .given .1) ∙ c .before .before .check-scene .ensures), ap refusalPlace (sym (c .enum-told .given .1) ∙ c .before .before .check-scene .ensures))
 
--- src/exports.rt:23:1
 returns-2 : tie.Need-returns-2
 returns-2 c = (ap refusalNumber (sym (c .before .checked .given .1) ∙ c .before .before .before .check-scene .ensures), ap refusalPlace (sym (c .before .checked .given .1) ∙ c .before .before .before .check-scene .ensures))
 

@@ -6,31 +6,24 @@ use borrow.Author.Needs.{needs}
 use Rattle.scene.proofs.exports.sizhbanto_feedback_scene.Statement.{statement}
 use Rattle.scene.proofs.exports.sizhbanto_feedback_scene.Tie as tie
 
--- src/exports.rt:90:9
 feedback-scene-requires : tie.Need-feedback-scene-requires
 feedback-scene-requires c κs = search needs
 
--- src/exports.rt:104:35
 enum-known-answer : tie.Need-enum-known-answer
 enum-known-answer c = search needs
 
--- src/exports.rt:110:34
 enum-known-answer-2 : tie.Need-enum-known-answer-2
 enum-known-answer-2 c = search needs
 
--- src/exports.rt:74:1
 same-length : tie.Need-same-length
 same-length c = search needs
 
--- src/exports.rt:74:1
 returns : tie.Need-returns
 returns c = (c .before .before .before .before .before .feedback-scene .result, c .before .before .before .before .before .feedback-scene .ensures, ap feedbackNumbers (sym (c .before .answer .given .1)))
 
--- src/exports.rt:74:1
 same-length-2 : tie.Need-same-length-2
 same-length-2 c = search needs
 
--- src/exports.rt:74:1
 returns-2 : tie.Need-returns-2
 returns-2 c = (c .before .before .before .before .before .feedback-scene .result, c .before .before .before .before .before .feedback-scene .ensures, ap feedbackNumbers (sym (c .before .answer2 .given .1)))
 

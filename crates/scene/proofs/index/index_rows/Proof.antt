@@ -9,67 +9,51 @@ use borrow.Author.Needs.{needs}
 use Rattle.scene.proofs.index.index_rows.Statement.{statement}
 use Rattle.scene.proofs.index.index_rows.Tie as tie
 
--- src/index.rt:46:5
 order-ids-requires : tie.Need-order-ids-requires
 order-ids-requires c κs = search needs
 
--- src/index.rt:47:36
 slice-reshare-prefix-first-repeat : tie.Need-slice-reshare-prefix-first-repeat
 slice-reshare-prefix-first-repeat c = search needs
 
--- src/index.rt:47:36
 slice-aggregate-first-repeat : tie.Need-slice-aggregate-first-repeat
 slice-aggregate-first-repeat c = sym (length-take-le (length (c .before .before .before .before .before .before .before .before .before .before .before .before .before .before .before .args .ids .now)) (c .before .before .before .order-ids .last .1 .0) (omega (arith, c .before .before .before .before .before .before .before .before .before .before .before .before .before .before .before .pre .0 .components-few, c .before .before .before .before .before .before .before .before .before .before .before .before .before .before .before .pre .1 .order-room, c .before .before .before .order-ids .kept .1 .0)))
 
--- src/index.rt:47:9
 first-repeat-requires : tie.Need-first-repeat-requires
 first-repeat-requires c κs = search needs
 
--- src/index.rt:48:9
 check-components-requires : tie.Need-check-components-requires
 check-components-requires c κs = search needs
 
--- src/index.rt:50:28
 enum-known-components : tie.Need-enum-known-components
 enum-known-components c = search needs
 
--- src/index.rt:56:13
 enum-told : tie.Need-enum-told
 enum-told c = search needs
 
--- src/index.rt:56:13
 slice-reshare-prefix-look-up-ends : tie.Need-slice-reshare-prefix-look-up-ends
 slice-reshare-prefix-look-up-ends c = search needs
 
--- src/index.rt:56:13
 slice-aggregate-look-up-ends : tie.Need-slice-aggregate-look-up-ends
 slice-aggregate-look-up-ends c = sym (length-take-le (length (c .before .before .before .before .before .before .before .before .before .before .before .before .before .before .before .before .before .before .before .before .args .ids .now)) (c .before .before .before .before .before .before .before .before .order-ids .last .1 .0) (omega (arith, c .before .before .before .before .before .before .before .before .before .before .before .before .before .before .before .before .before .before .before .before .pre .0 .components-few, c .before .before .before .before .before .before .before .before .before .before .before .before .before .before .before .before .before .before .before .before .pre .1 .order-room, c .before .before .before .before .before .before .before .before .order-ids .kept .1 .0)))
 
--- src/index.rt:54:30
 look-up-ends-requires : tie.Need-look-up-ends-requires
 look-up-ends-requires c κs = record { sorted = c .before .before .before .before .before .before .before .before .before .before .order-ids .ensures; sinks-length = c .before .before .before .before .before .before .before .before .before .before .before .before .before .before .before .before .before .before .before .before .before .before .pre .0 .sinks-length; transfers-length = c .before .before .before .before .before .before .before .before .before .before .before .before .before .before .before .before .before .before .before .before .before .before .pre .0 .transfers-length; starts-room = omega (arith, c .before .before .before .before .before .before .before .before .before .before .before .before .before .before .before .before .before .before .before .before .before .before .pre .0 .connections-few, c .before .before .before .before .before .before .before .before .before .before .before .before .before .before .before .before .before .before .before .before .before .before .pre .1 .starts-room); stops-room = omega (arith, c .before .before .before .before .before .before .before .before .before .before .before .before .before .before .before .before .before .before .before .before .before .before .pre .0 .connections-few, c .before .before .before .before .before .before .before .before .before .before .before .before .before .before .before .before .before .before .before .before .before .before .pre .1 .stops-room) }
 
--- src/index.rt:30:1
 same-length : tie.Need-same-length
 same-length c = search needs
 
--- src/index.rt:30:1
 returns : tie.Need-returns
 returns c = components-refused _ _ _ _ _ _ _ _ _ _ (cc (c .before .before .before .check-components .ensures))
 
--- src/index.rt:30:1
 same-length-2 : tie.Need-same-length-2
 same-length-2 c = search needs
 
--- src/index.rt:30:1
 same-length-3 : tie.Need-same-length-3
 same-length-3 c = search needs
 
--- src/index.rt:30:1
 same-length-4 : tie.Need-same-length-4
 same-length-4 c = search needs
 
--- src/index.rt:30:1
 returns-2 : tie.Need-returns-2
 returns-2 c = ends-indexed _ _ _ _ _ _ _ _ _ _ (cc (c .before .before .before .before .before .before .before .before .before .before .check-components .ensures)) (c .before .before .before .before .before .before .before .before .before .before .before .before .before .before .before .order-ids .ensures) (c .before .before .before .before .look-up-ends .ensures)
 

@@ -9,39 +9,30 @@ use borrow.Author.Needs.{needs}
 use Rattle.scene.proofs.index.index_scene.Statement.{statement}
 use Rattle.scene.proofs.index.index_scene.Tie as tie
 
--- src/index.rt:89:9
 check-sizes-requires : tie.Need-check-sizes-requires
 check-sizes-requires c κs = search needs
 
--- src/index.rt:104:28
 enum-known-sizes : tie.Need-enum-known-sizes
 enum-known-sizes c = search needs
 
--- src/index.rt:116:13
 enum-told : tie.Need-enum-told
 enum-told c = search needs
 
--- src/index.rt:108:30
 index-rows-requires : tie.Need-index-rows-requires
 index-rows-requires c κs = (sized (componentLists (c .before .before .before .before .before .before .before .before .before .before .before .before .before .before .before .before .before .args .ids .now) (c .before .before .before .before .before .before .before .before .before .before .before .before .before .before .before .before .before .args .kinds .now) (c .before .before .before .before .before .before .before .before .before .before .before .before .before .before .before .before .before .args .delays .now) (c .before .before .before .before .before .before .before .before .before .before .before .before .before .before .before .before .before .args .locked .now) (c .before .before .before .before .before .before .before .before .before .before .before .before .before .before .before .before .before .args .xs .now) (c .before .before .before .before .before .before .before .before .before .before .before .before .before .before .before .before .before .args .ys .now) (c .before .before .before .before .before .before .before .before .before .before .before .before .before .before .before .before .before .args .zs .now)) (connectionLists (c .before .before .before .before .before .before .before .before .before .before .before .before .before .before .before .before .before .args .sources .now) (c .before .before .before .before .before .before .before .before .before .before .before .before .before .before .before .before .before .args .sinks .now) (c .before .before .before .before .before .before .before .before .before .before .before .before .before .before .before .before .before .args .transfers .now)) (roomOutputs (length (c .before .before .before .before .before .before .before .before .before .before .before .before .before .before .before .before .before .args .ids .now)) (length (c .before .before .before .before .before .before .before .before .before .before .before .before .before .before .before .before .before .args .sources .now)) (c .before .before .before .before .before .before .before .before .before .before .before .before .before .before .before .before .before .args .first) (c .before .before .before .before .before .before .before .before .before .before .before .before .before .before .before .before .before .args .room .now)) (sym (c .before .before .before .enum-told .given .1) ∙ c .before .before .before .before .before .check-sizes .ensures), c .before .before .before .before .before .before .before .before .before .before .before .before .before .before .before .before .before .pre)
 
--- src/index.rt:69:1
 returns : tie.Need-returns
 returns c = sizes-refused _ _ _ _ _ _ _ _ _ (cc (c .before .before .before .check-sizes .ensures))
 
--- src/index.rt:69:1
 same-length : tie.Need-same-length
 same-length c = search needs
 
--- src/index.rt:69:1
 same-length-2 : tie.Need-same-length-2
 same-length-2 c = search needs
 
--- src/index.rt:69:1
 same-length-3 : tie.Need-same-length-3
 same-length-3 c = search needs
 
--- src/index.rt:69:1
 returns-2 : tie.Need-returns-2
 returns-2 c = rows-indexed _ _ _ _ _ _ _ _ _ (cc (c .before .before .before .before .before .before .before .before .before .before .before .before .check-sizes .ensures)) (c .before .before .before .before .before .before .index-rows .ensures)
 

@@ -6,19 +6,15 @@ use borrow.Author.Needs.{needs}
 use Rattle.scene.proofs.index.order_ids.Statement.{statement}
 use Rattle.scene.proofs.index.order_ids.Tie as tie
 
--- src/index.rt:25:32
 slice-aggregate-sort-positions : tie.Need-slice-aggregate-sort-positions
 slice-aggregate-sort-positions c = search needs
 
--- src/index.rt:25:5
 sort-positions-requires : tie.Need-sort-positions-requires
 sort-positions-requires c κs = search needs
 
--- src/index.rt:20:1
 same-length : tie.Need-same-length
 same-length c = search needs
 
--- src/index.rt:20:1
 returns : tie.Need-returns
 returns c = sorted-front _ _ _ _ _ _ (omega (arith, c .before .before .before .before .before .before .before .before .pre .0, c .before .before .before .before .before .before .before .before .pre .1)) (omega (arith, c .before .before .before .before .before .before .before .before .pre .0)) (c .before .before .before .sort-positions .ensures)
 

@@ -14,47 +14,36 @@ Inv-loop n m first room list₀ k₀ list k = (roomLeft n m first 0 room ≡ roo
 abbrev μ-loop : tie.MeasureT-loop
 μ-loop n m first room list₀ k₀ list k = length room - k
 
--- src/sizes.rt:53:5
 loop-holds : tie.Need-loop-holds Inv-loop μ-loop
 loop-holds c = (refl, omega arith)
 
--- src/sizes.rt:55:13
 returns : tie.Need-returns Inv-loop μ-loop
 returns c = room-past (c .before .before .before .before .args .n) (c .before .before .before .before .args .m) (c .before .before .loop .list) (c .before .before .loop .k) (c .before .before .before .before .args .room .now) (c .if1 .taken) ∙ sym (c .before .before .loop .inv .0)
 
--- src/sizes.rt:57:12
 mul-if2 : tie.Need-mul-if2 Inv-loop μ-loop
 mul-if2 c = search needs
 
--- src/sizes.rt:57:12
 shared-slice-read-if2 : tie.Need-shared-slice-read-if2 Inv-loop μ-loop
 shared-slice-read-if2 c = search needs
 
--- src/sizes.rt:57:22
 need-of-requires : tie.Need-need-of-requires Inv-loop μ-loop
 need-of-requires c κs = search needs
 
--- src/sizes.rt:58:13
 returns-2 : tie.Need-returns-2 Inv-loop μ-loop
 returns-2 c = room-short (c .before .before .before .before .before .before .before .args .n) (c .before .before .before .before .before .before .before .args .m) (c .before .before .before .before .before .loop .list) (c .before .before .before .before .before .loop .k) (c .before .before .before .before .before .before .before .args .room .now) (omega arith) (subst (λ x. getD (c .before .before .before .before .before .before .before .args .room .now) (c .before .before .before .before .before .loop .k) 0 < x) (c .before .need-of .ensures) (c .if2 .taken)) ∙ sym (c .before .before .before .before .before .loop .inv .0)
 
--- src/sizes.rt:60:9
 add-list : tie.Need-add-list Inv-loop μ-loop
 add-list c = search needs
 
--- src/sizes.rt:61:9
 add-k : tie.Need-add-k Inv-loop μ-loop
 add-k c = search needs
 
--- src/sizes.rt:53:5
 loop-less : tie.Need-loop-less Inv-loop μ-loop
 loop-less c = search needs
 
--- src/sizes.rt:53:5
 loop-again : tie.Need-loop-again Inv-loop μ-loop
 loop-again c = (c .before .before .before .before .before .loop .inv .0 ∙ room-more (c .before .before .before .before .before .before .before .args .n) (c .before .before .before .before .before .before .before .args .m) (c .before .before .before .before .before .loop .list) (c .before .before .before .before .before .loop .k) (c .before .before .before .before .before .before .before .args .room .now) (omega arith) (omega (arith, c .before .need-of .ensures, c .if2 .left)), omega arith)
 
--- src/sizes.rt:47:1
 returns-3 : tie.Need-returns-3 Inv-loop μ-loop
 returns-3 c = room-end (c .before .before .before .args .n) (c .before .before .before .args .m) (c .before .loop .list) (c .before .loop .k) (c .before .before .before .args .room .now) (omega arith) ∙ sym (c .before .loop .inv .0)
 

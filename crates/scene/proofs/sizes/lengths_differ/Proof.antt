@@ -13,39 +13,30 @@ Inv-loop lengths i₀ i = AlikeBelow i lengths × (i ≤ length lengths)
 abbrev μ-loop : tie.MeasureT-loop
 μ-loop lengths i₀ i = length lengths - i
 
--- src/sizes.rt:17:5
 loop-holds : tie.Need-loop-holds Inv-loop μ-loop
 loop-holds c = (λ j h. absurd (omega arith), omega arith)
 
--- src/sizes.rt:18:12
 mul-if1 : tie.Need-mul-if1 Inv-loop μ-loop
 mul-if1 c = search needs
 
--- src/sizes.rt:18:12
 shared-slice-read-if1 : tie.Need-shared-slice-read-if1 Inv-loop μ-loop
 shared-slice-read-if1 c = search needs
 
--- src/sizes.rt:18:26
 shared-slice-read-if1-2 : tie.Need-shared-slice-read-if1-2 Inv-loop μ-loop
 shared-slice-read-if1-2 c = search needs
 
--- src/sizes.rt:19:13
 returns : tie.Need-returns Inv-loop μ-loop
 returns c = differ-at (c .before .before .before .before .before .args .lengths .now) (c .before .before .before .before .loop .i) (omega arith) (c .if1 .taken)
 
--- src/sizes.rt:21:9
 add-i : tie.Need-add-i Inv-loop μ-loop
 add-i c = search needs
 
--- src/sizes.rt:17:5
 loop-less : tie.Need-loop-less Inv-loop μ-loop
 loop-less c = search needs
 
--- src/sizes.rt:17:5
 loop-again : tie.Need-loop-again Inv-loop μ-loop
 loop-again c = (alike-more (c .before .before .before .before .loop .i) (c .before .before .before .before .before .args .lengths .now) (c .before .before .before .before .loop .inv .0) (c .if1 .left), omega arith)
 
--- src/sizes.rt:13:1
 returns-2 : tie.Need-returns-2 Inv-loop μ-loop
 returns-2 c = alike-all (c .before .before .args .lengths .now) (λ j h. c .before .loop .inv .0 j (omega (arith, h)))
 

@@ -3,70 +3,54 @@ use borrow.Author.Needs.{needs}
 use Rattle.rules.specs.declared.kinds.TemporalNodeKind.the-variants.{Source, Wire, Inverter, Delay, Comparator, Actuator, Conductor}
 use Rattle.scene.proofs.LoopSteps.{without-mark, by-node}
 use borrow.Author.Needs.{needs}
-use Rattle.scene.proofs.feedback.on_loop.Statement.{statement}
-use Rattle.scene.proofs.feedback.on_loop.Tie as tie
+use Rattle.scene.proofs.loops.on_loop.Statement.{statement}
+use Rattle.scene.proofs.loops.on_loop.Tie as tie
 
--- src/feedback.rt:20:9
 returns : tie.Need-returns
 returns c = without-mark (c .before .args .kind) (c .before .args .mark) (c .if1 .taken)
 
--- src/feedback.rt:22:9
 kind-row-requires : tie.Need-kind-row-requires
 kind-row-requires c κs = search needs
 
--- src/feedback.rt:25:35
 enum-told : tie.Need-enum-told
 enum-told c = search needs
 
--- src/feedback.rt:26:40
 enum-told-2 : tie.Need-enum-told-2
 enum-told-2 c = search needs
 
--- src/feedback.rt:27:37
 enum-told-3 : tie.Need-enum-told-3
 enum-told-3 c = search needs
 
--- src/feedback.rt:28:39
 enum-told-4 : tie.Need-enum-told-4
 enum-told-4 c = search needs
 
--- src/feedback.rt:29:36
 enum-told-5 : tie.Need-enum-told-5
 enum-told-5 c = search needs
 
--- src/feedback.rt:30:41
 enum-told-6 : tie.Need-enum-told-6
 enum-told-6 c = search needs
 
--- src/feedback.rt:31:39
 enum-told-7 : tie.Need-enum-told-7
 enum-told-7 c = search needs
 
--- src/feedback.rt:16:1
 returns-2 : tie.Need-returns-2
 returns-2 c = by-node (c .before .before .before .before .args .kind) (c .before .before .before .before .args .mark) Wire (cc) (c .before .before .before .if1 .left)
 
--- src/feedback.rt:16:1
 returns-3 : tie.Need-returns-3
 returns-3 c = by-node (c .before .before .before .before .args .kind) (c .before .before .before .before .args .mark) Conductor (cc) (c .before .before .before .if1 .left)
 
--- src/feedback.rt:16:1
 returns-4 : tie.Need-returns-4
 returns-4 c = by-node (c .before .before .before .before .args .kind) (c .before .before .before .before .args .mark) Source (cc) (c .before .before .before .if1 .left)
 
--- src/feedback.rt:16:1
 returns-5 : tie.Need-returns-5
 returns-5 c = by-node (c .before .before .before .before .args .kind) (c .before .before .before .before .args .mark) Inverter (cc) (c .before .before .before .if1 .left)
 
--- src/feedback.rt:16:1
 returns-6 : tie.Need-returns-6
 returns-6 c = by-node (c .before .before .before .before .args .kind) (c .before .before .before .before .args .mark) Delay (cc) (c .before .before .before .if1 .left)
 
--- src/feedback.rt:16:1
 returns-7 : tie.Need-returns-7
 returns-7 c = by-node (c .before .before .before .before .args .kind) (c .before .before .before .before .args .mark) Comparator (cc) (c .before .before .before .if1 .left)
 
--- src/feedback.rt:16:1
 returns-8 : tie.Need-returns-8
 returns-8 c = by-node (c .before .before .before .before .args .kind) (c .before .before .before .before .args .mark) Actuator (cc) (c .before .before .before .if1 .left)
 

@@ -1,14 +1,12 @@
 -- Assumes nothing.
 use native.Mathlib.Omega.{arith}
 use Rattle.scene.proofs.LoopSteps.{one-reason, no-reason}
-use Rattle.scene.proofs.feedback.feedback_reasons.Statement.{statement}
-use Rattle.scene.proofs.feedback.feedback_reasons.Tie as tie
+use Rattle.scene.proofs.loops.feedback_reasons.Statement.{statement}
+use Rattle.scene.proofs.loops.feedback_reasons.Tie as tie
 
--- src/feedback.rt:124:1
 returns : tie.Need-returns
 returns c = λ ids e. one-reason ids (omega (arith, e, c .if1 .taken))
 
--- src/feedback.rt:124:1
 returns-2 : tie.Need-returns-2
 returns-2 c = λ ids e. no-reason ids (omega (arith, e, c .if1 .left))
 

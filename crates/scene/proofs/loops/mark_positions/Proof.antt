@@ -3,34 +3,27 @@ use borrow.Author.Needs.{needs}
 use lib.ListN.{length}
 use Rattle.scene.proofs.LoopSteps.{marks-shared}
 use borrow.Author.Needs.{needs}
-use Rattle.scene.proofs.feedback.mark_positions.Statement.{statement}
-use Rattle.scene.proofs.feedback.mark_positions.Tie as tie
+use Rattle.scene.proofs.loops.mark_positions.Statement.{statement}
+use Rattle.scene.proofs.loops.mark_positions.Tie as tie
 
--- src/feedback.rt:32:9
 slice-aggregate-mark-shared-components : tie.Need-slice-aggregate-mark-shared-components
 slice-aggregate-mark-shared-components c = search needs
 
--- src/feedback.rt:33:9
 slice-aggregate-mark-shared-components-2 : tie.Need-slice-aggregate-mark-shared-components-2
 slice-aggregate-mark-shared-components-2 c = search needs
 
--- src/feedback.rt:34:9
 slice-aggregate-mark-shared-components-3 : tie.Need-slice-aggregate-mark-shared-components-3
 slice-aggregate-mark-shared-components-3 c = search needs
 
--- src/feedback.rt:35:9
 slice-aggregate-mark-shared-components-4 : tie.Need-slice-aggregate-mark-shared-components-4
 slice-aggregate-mark-shared-components-4 c = search needs
 
--- src/feedback.rt:28:5
 mark-shared-components-requires : tie.Need-mark-shared-components-requires
 mark-shared-components-requires c κs = search needs
 
--- src/feedback.rt:20:1
 same-length : tie.Need-same-length
 same-length c = search needs
 
--- src/feedback.rt:20:1
 returns : tie.Need-returns
 returns c = marks-shared (c .before .before .before .before .before .before .before .before .before .before .before .before .before .before .before .args .starts .now) (c .before .before .before .before .before .before .before .before .before .before .before .before .before .before .before .args .stops .now) (length (c .before .before .before .before .before .before .before .before .before .before .before .before .before .before .before .args .marks .now)) (c .before .before .before .before .before .before .before .before .before .before .before .before .before .before .before .pre) _ _ (c .before .before .before .before .before .before .mark-shared-components .ensures .1 .0)
 

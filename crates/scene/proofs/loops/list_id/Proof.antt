@@ -1,30 +1,24 @@
 -- Assumes nothing.
 use mathlib.Core.Path.{refl}
 use borrow.Author.Needs.{needs}
-use Rattle.scene.proofs.feedback.list_id.Statement.{statement}
-use Rattle.scene.proofs.feedback.list_id.Tie as tie
+use Rattle.scene.proofs.loops.list_id.Statement.{statement}
+use Rattle.scene.proofs.loops.list_id.Tie as tie
 
--- src/feedback.rt:42:9
 mul-list : tie.Need-mul-list
 mul-list c = search needs
 
--- src/feedback.rt:42:9
 slice-write-list : tie.Need-slice-write-list
 slice-write-list c = search needs
 
--- src/feedback.rt:43:9
 add-result : tie.Need-add-result
 add-result c = search needs
 
--- src/feedback.rt:36:1
 same-length : tie.Need-same-length
 same-length c = search needs
 
--- src/feedback.rt:36:1
 returns : tie.Need-returns
 returns c = rw (c .if1 .taken) (refl, refl)
 
--- src/feedback.rt:36:1
 returns-2 : tie.Need-returns-2
 returns-2 c = search needs
 

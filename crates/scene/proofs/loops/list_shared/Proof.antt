@@ -7,42 +7,33 @@ use Rattle.rules.specs.Graph.{edgesBetween, sharedMarks}
 use Rattle.scene.specs.Loops.{Linked}
 use Rattle.scene.proofs.LoopSteps.{written-front, front-room, shared-listed}
 use borrow.Author.Needs.{needs}
-use Rattle.scene.proofs.feedback.list_shared.Statement.{statement}
-use Rattle.scene.proofs.feedback.list_shared.Tie as tie
+use Rattle.scene.proofs.loops.list_shared.Statement.{statement}
+use Rattle.scene.proofs.loops.list_shared.Tie as tie
 
--- src/feedback.rt:103:35
 slice-relend-prefix-mark-positions : tie.Need-slice-relend-prefix-mark-positions
 slice-relend-prefix-mark-positions c = search needs
 
--- src/feedback.rt:103:35
 slice-aggregate-mark-positions : tie.Need-slice-aggregate-mark-positions
 slice-aggregate-mark-positions c = sym (length-take-le (length (c .before .before .before .before .before .before .before .args .ids .now)) (c .before .before .before .before .before .before .before .args .marks .now) (c .before .before .before .before .before .before .before .pre .1 .marks-room))
 
--- src/feedback.rt:103:5
 mark-positions-requires : tie.Need-mark-positions-requires
 mark-positions-requires c κs = subst (λ k. Linked (c .before .before .before .before .before .before .before .args .starts .now) (c .before .before .before .before .before .before .before .args .stops .now) k) (sym (length-take-le (length (c .before .before .before .before .before .before .before .args .ids .now)) (c .before .before .before .before .before .before .before .args .marks .now) (c .before .before .before .before .before .before .before .pre .1 .marks-room))) (c .before .before .before .before .before .before .before .pre .0)
 
--- src/feedback.rt:104:29
 slice-reshare-prefix-list-marked : tie.Need-slice-reshare-prefix-list-marked
 slice-reshare-prefix-list-marked c = search needs
 
--- src/feedback.rt:104:29
 slice-aggregate-list-marked : tie.Need-slice-aggregate-list-marked
 slice-aggregate-list-marked c = sym (ap length (written-front (length (c .before .before .before .before .before .before .before .before .before .before .before .args .ids .now)) (c .before .before .before .mark-positions .last .1 .1 .0) _ _ (c .before .before .before .mark-positions .kept .1 .1 .0 ∙ length-take-le (length (c .before .before .before .before .before .before .before .before .before .before .before .args .ids .now)) (c .before .before .before .before .before .before .before .before .before .before .before .args .marks .now) (c .before .before .before .before .before .before .before .before .before .before .before .pre .1 .marks-room)) refl) ∙ (c .before .before .before .mark-positions .kept .1 .1 .0 ∙ length-take-le (length (c .before .before .before .before .before .before .before .before .before .before .before .args .ids .now)) (c .before .before .before .before .before .before .before .before .before .before .before .args .marks .now) (c .before .before .before .before .before .before .before .before .before .before .before .pre .1 .marks-room)))
 
--- src/feedback.rt:104:5
 list-marked-requires : tie.Need-list-marked-requires
 list-marked-requires c κs = record { kinds-length = c .before .before .before .before .before .before .before .before .before .before .before .before .pre .1 .kinds-length; marks-room = front-room (length (c .before .before .before .before .before .before .before .before .before .before .before .before .args .ids .now)) (c .before .before .before .before .mark-positions .last .1 .1 .0) _ (c .before .before .before .before .mark-positions .kept .1 .1 .0 ∙ length-take-le (length (c .before .before .before .before .before .before .before .before .before .before .before .before .args .ids .now)) (c .before .before .before .before .before .before .before .before .before .before .before .before .args .marks .now) (c .before .before .before .before .before .before .before .before .before .before .before .before .pre .1 .marks-room)); room = c .before .before .before .before .before .before .before .before .before .before .before .before .pre .1 .room }
 
--- src/feedback.rt:90:1
 same-length : tie.Need-same-length
 same-length c = search needs
 
--- src/feedback.rt:90:1
 same-length-2 : tie.Need-same-length-2
 same-length-2 c = search needs
 
--- src/feedback.rt:90:1
 returns : tie.Need-returns
 returns c = shared-listed _ _ _ _ _ _ _ _ (written-front (length (c .before .before .before .before .before .before .before .before .before .before .before .before .before .before .before .args .ids .now)) (c .before .before .before .before .before .before .before .mark-positions .last .1 .1 .0) _ (sharedMarks (edgesBetween (c .before .before .before .before .before .before .before .before .before .before .before .before .before .before .before .args .starts .now) (c .before .before .before .before .before .before .before .before .before .before .before .before .before .before .before .args .stops .now)) (length (c .before .before .before .before .before .before .before .before .before .before .before .before .before .before .before .args .ids .now))) (c .before .before .before .before .before .before .before .mark-positions .kept .1 .1 .0 ∙ length-take-le (length (c .before .before .before .before .before .before .before .before .before .before .before .before .before .before .before .args .ids .now)) (c .before .before .before .before .before .before .before .before .before .before .before .before .before .before .before .args .marks .now) (c .before .before .before .before .before .before .before .before .before .before .before .before .before .before .before .pre .1 .marks-room)) (c .before .before .before .before .before .before .before .mark-positions .ensures ∙ ap (sharedMarks (edgesBetween (c .before .before .before .before .before .before .before .before .before .before .before .before .before .before .before .args .starts .now) (c .before .before .before .before .before .before .before .before .before .before .before .before .before .before .before .args .stops .now))) (length-take-le (length (c .before .before .before .before .before .before .before .before .before .before .before .before .before .before .before .args .ids .now)) (c .before .before .before .before .before .before .before .before .before .before .before .before .before .before .before .args .marks .now) (c .before .before .before .before .before .before .before .before .before .before .before .before .before .before .before .pre .1 .marks-room)))) (c .before .before .list-marked .ensures)
 
