@@ -4,14 +4,14 @@ use mathlib.Core.Path.{_≡_, refl, sym, subst, _∙_}
 use Prim.Native.Nat.{ℕ, suc, _-_, _<_, _≤_}
 use native.Mathlib.Nat.{zero-add}
 use native.Mathlib.Omega.{arith}
-use lib.Dec.{T, eqb→eq}
+use lib.Dec.{eqb→eq}
 use lib.ListN.{length, getD, take, drop}
 use lib.Seq.{split-at, drop-cons, drop-length}
 use Rattle.rules.specs.Lists.{indices}
-use Rattle.rules.specs.Graph.{Edge, reach, stronglyConnected, edgesBetween}
+use Rattle.rules.specs.Graph.{Edge, edgesBetween}
 use Rattle.rules.proofs.Indices.{at-mem, below-indices}
-use Rattle.rules.proofs.Lists.{and-left, and-right, and-both, same-test, eq-test}
-use Rattle.rules.proofs.Reach.{reach→walk, walk→reach}
+use Rattle.rules.proofs.Lists.{same-test, eq-test}
+use Rattle.rules.proofs.Reach.{connected→, →connected}
 use Rattle.rules.proofs.Written.{written-at, written-length}
 use Rattle.graph.specs.Adjacency.{Indexed, Below, neighbours}
 use Rattle.graph.specs.Visits.{Dfs, Linked, Visited, Open, Collected, paint}
@@ -21,15 +21,6 @@ use Rattle.graph.proofs.GroupSteps.{length-paint}
 use Rattle.graph.proofs.Seen.{Unseen, Seen}
 use Rattle.graph.proofs.Neighbours.{Leads, leads, turn, edge-low, edge-high, walk-high}
 use Rattle.graph.proofs.Kosaraju.{Mutual, mutual-sym, mutual-trans, BothWays, Halfway, halfway-none, halfway-old, halfway-new, all-out}
-
--- a walk each way is the rules' strong connection
-strong-mutual : (es : List Edge) (x y : ℕ) → T (stronglyConnected es x y) → Mutual es x y
-unfolding stronglyConnected
-strong-mutual es x y t = (reach→walk es x y (and-left (reach es x y) (reach es y x) t), reach→walk es y x (and-right (reach es x y) (reach es y x) t))
-
-mutual-strong : (es : List Edge) (x y : ℕ) → Mutual es x y → T (stronglyConnected es x y)
-unfolding stronglyConnected
-mutual-strong es x y m = and-both (reach es x y) (reach es y x) (walk→reach es x y (m .0)) (walk→reach es y x (m .1))
 
 -- out lists the nodes below n as depth-first visits along es left them
 pub record LeftInOrder (es : List Edge) (n : ℕ) (out : List ℕ) : Type 0 where
@@ -170,6 +161,6 @@ module _ {sources sinks head next order s g : List ℕ} (i : ℕ) (w : Sweeping 
     sweep-end = record {
       rooted = sweep-rooted;
       same = λ x y xn yn. same-test _ _
-          (λ t. mutual-strong _ x y (mutual-trans (own x xn) (mutual-sym (subst (Mutual _ y) (sym (eqb→eq _ _ t)) (own y yn)))))
-          (λ t. eq-test (sym (w .half .whole x y xn yn (seen x xn) (strong-mutual _ x y t) .1)));
+          (λ t. let m = mutual-trans (own x xn) (mutual-sym (subst (Mutual _ y) (sym (eqb→eq _ _ t)) (own y yn))) in →connected _ x y (m .0) (m .1))
+          (λ t. eq-test (sym (w .half .whole x y xn yn (seen x xn) (connected→ _ x y t) .1)));
     }

@@ -16,7 +16,7 @@ mod components; // components.rt: a group for each strongly connected component,
 // component, else 0. There is a node for each entry of marks. The lists must fit: as many sinks as sources, each end a
 // node, head, order and group with an entry for each node at least, next with one for each edge. If they do not, the
 // answer is false and every list keeps its content. If they do, what head, next, order and group hold afterwards is
-// open: they are lent to work in.
+// open: they are lent to work in. Calls nest as deep as a path of the graph is long, two for each node on it.
 pub fn mark_shared_components(
     sources: &[usize],
     sinks: &[usize],

@@ -20,7 +20,7 @@ use Rattle.rules.proofs.Scenes.{DistinctIds, row-at, delay-at}
 use Rattle.rules.proofs.Acceptance.{distinct→ids}
 use Rattle.laws.proofs.Renaming.{label-named, unequal-at-named, unequal-reason-named, compressed-named}
 use Rattle.laws.proofs.RenamedProjection.{namedEntry, projected-named}
-use Rattle.laws.proofs.PositionEdges.{idAt, Positioned}
+use Rattle.rules.specs.Positions.{idAt, Positioned}
 
 -- the component at a position is a Wire, Conductor or Delay, and one edge over positions leads there and one from there
 abbrev pub compressedAt : ComponentLists → List Edge → ℕ → Bool
@@ -96,7 +96,7 @@ module _ (l : ComponentLists) (distinct : Distinct (l .ids)) where
         map-map (λ c. cond (compressed (componentsOf l) es (c .id)) 0 1) (componentAt l) (indices (length (l .ids)))
         ∙ map-same _ _ (indices (length (l .ids))) (λ i m. ap (λ b. cond b 0 1) (compressed-by-position i (indices-below (length (l .ids)) m)))
 
-    -- lists 6 and 7, where `ranked` has the positions by rising id
+    -- the projected edges, where `ranked` has the positions by rising id
     pub projected-by-position : (d : ℕ → ℕ) (inverts through : ℕ → Bool) (ranked : List ℕ) → ((i : ℕ) → i < length (l .ids) → delayOf (componentAt l i) ≡ d i)
         → ((i : ℕ) → i < length (l .ids) → isDelayedInvert (rowOf (componentAt l i) .behavior) ≡ inverts i)
         → ((i : ℕ) → i < length (l .ids) → compressedAt l positions i ≡ through i)

@@ -1,8 +1,8 @@
 -- The edges of a scene over positions: how they are made one by one, and Feedback by positions and marks. Assumes nothing.
-use mathlib.Core.Bool.{Bool, true, false, not, cond, _&&_}
+use mathlib.Core.Bool.{Bool, not, cond, _&&_}
 use mathlib.Core.List.{List, [], _∷_, _++_, map, map-map, map-append, append-nil, List·Memᴰ, List·Memᴰ·not-nil, List·Memᴰ·cases-cons, List·Memᴰ·append-cases, List·Memᴰ·eq-of-singleton}
 use mathlib.Core.Path.{_≡_, refl, sym, ap, ap₂, subst, _∙_}
-use mathlib.Core.Logic.{_⊎_, inl, inr, ⊎-elim}
+use mathlib.Core.Logic.{_⊎_, ⊎-elim}
 use Prim.Native.Nat.{ℕ, zero, suc, _<_}
 use native.Mathlib.Omega.{arith}
 use lib.Dec.{T, eqb}
@@ -13,9 +13,10 @@ use Rattle.rules.specs.Scene.{Connection, ComponentLists, componentAt, componen
 use Rattle.rules.specs.Reasons.{passive, otherIn, inFeedback, feedback}
 use Rattle.rules.proofs.Lists.{chosen, not-chosen, any-same, any-map, keep-same, keep-map, keep-append}
 use Rattle.rules.proofs.Distinct.{Distinct}
+use Rattle.rules.specs.Positions.{idAt, named, Inside, Positioned}
 use Rattle.rules.proofs.Indices.{at-mem, indices-below, distinct-at}
 use Rattle.rules.proofs.SharedComponents.{marks-at}
-use Rattle.laws.proofs.Renaming.{named, Inside, same-named, connected-named}
+use Rattle.laws.proofs.Renaming.{same-named, connected-named}
 
 -- Edges by two lists of ends
 
@@ -53,7 +54,7 @@ edgesBetween-sinks [] (d ∷ b) e = absurd (omega arith)
 edgesBetween-sinks (c ∷ a) [] e = absurd (omega arith)
 edgesBetween-sinks (c ∷ a) (d ∷ b) e = ap (λ l. d ∷ l) (edgesBetween-sinks a b (omega arith))
 
--- the ends of all edges are below n exactly if the entries of both lists are
+-- the ends of all edges are below n if the entries of both lists are; for lists of one length also only if
 pub edgesBetween-inside : (n : ℕ) (a b : List ℕ) → ((i : ℕ) → i < length a → getD a i 0 < n) → ((i : ℕ) → i < length b → getD b i 0 < n) → Inside n (edgesBetween a b)
 unfolding edgesBetween
 edgesBetween-inside n [] b h k e m = absurd (List·Memᴰ·not-nil m)
@@ -75,14 +76,6 @@ module _ (n : ℕ) (a b : List ℕ) (same : length a ≡ length b) (inside : Ins
   inside-sinks i h = ends-at i (omega arith) .1
 
 -- The edges over positions: with the ids of their ends they are the edges over ids
-
--- the id at a position
-abbrev pub idAt : List ℕ → ℕ → ℕ
-idAt ids i = getD ids i 0
-
-pub record Positioned (ids : List ℕ) (es positions : List Edge) : Type 0 where
-  pub inside : Inside (length ids) positions
-  pub names : map (named (idAt ids)) positions ≡ es
 
 -- one by one, as the connections are gone through
 inside-append : (n : ℕ) (ps : List Edge) (x y : ℕ) → Inside n ps → x < n → y < n → Inside n (ps ++ ((x ⟶ y) ∷ []))
@@ -149,29 +142,8 @@ module _ (l : ComponentLists) (distinct : Distinct (l .ids)) (es positions : Lis
       ap (map idOf) (keep-map (inFeedback (componentsOf l) (stronglyConnected es)) (componentAt l) all ∙ ap (map (componentAt l)) (keep-same _ _ all (λ i m. feedback-at i (indices-below (length (l .ids)) m))))
       ∙ map-map idOf (componentAt l) (keep (λ i. active i && sharesComponent positions (length (l .ids)) i) all)
 
--- A mark is 1 for a position that shares its strongly connected component, and 0 for any other
+-- The mark of a position
 
 module _ (es : List Edge) (n : ℕ) (marks : List ℕ) (marked : marks ≡ sharedMarks es n) (i : ℕ) (h : i < n) where
   pub mark-at : getD marks i 0 ≡ cond (sharesComponent es n i) 1 0
   mark-at = ap (λ l. getD l i 0) marked ∙ marks-at es n i h
-
-  pub mark-cases : (getD marks i 0 ≡ 1) ⊎ (getD marks i 0 ≡ 0)
-  mark-cases = go (sharesComponent es n i) mark-at
-    where
-      go : (b : Bool) → getD marks i 0 ≡ cond b 1 0 → (getD marks i 0 ≡ 1) ⊎ (getD marks i 0 ≡ 0)
-      go true e = inl e
-      go false e = inr e
-
-  pub shares→mark : T (sharesComponent es n i) → getD marks i 0 ≡ 1
-  shares→mark t = mark-at ∙ chosen 1 0 (sharesComponent es n i) t
-
-  -- for code that asks whether the mark is 0
-  pub mark→shares : (getD marks i 0 ≡ 0 → ⊥) → T (sharesComponent es n i)
-  mark→shares k = go (sharesComponent es n i) mark-at
-    where
-      go : (b : Bool) → getD marks i 0 ≡ cond b 1 0 → T b
-      go true e = tt
-      go false e = k e
-
-  pub no-mark→apart : getD marks i 0 ≡ 0 → T (sharesComponent es n i) → ⊥
-  no-mark→apart e t = omega (arith, shares→mark t)

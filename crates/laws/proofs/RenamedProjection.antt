@@ -10,7 +10,8 @@ use Rattle.rules.specs.Graph.{Edge, sourceOf, sinkOf, startsAt}
 use Rattle.rules.specs.Scene.{Component, risingIds, delayAt}
 use Rattle.rules.specs.Projection.{compressed, retained, firstEdges, next, chain, chainFrom, beforeLast, lastOf, flips, invertsAt, ProjectedEdge, projectedBy, projectedAlong, projected}
 use Rattle.rules.proofs.Lists.{keep-out, keep-same, keep-map, map-same, flat-out, flat-mapped}
-use Rattle.laws.proofs.Renaming.{named, Inside, same-named, sum-named}
+use Rattle.laws.proofs.Renaming.{same-named, sum-named}
+use Rattle.rules.specs.Positions.{named, Inside}
 
 -- a projected edge between the names of its ends, with the names of its path
 abbrev pub namedEntry : (ℕ → ℕ) → ProjectedEdge → ProjectedEdge

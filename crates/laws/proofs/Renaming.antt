@@ -7,6 +7,7 @@ use lib.Dec.{eqb, eqb→eq}
 use lib.ListN.{length, length-map}
 use Rattle.rules.specs.Lists.{keep}
 use Rattle.rules.specs.Graph.{Edge, _⟶_, sourceOf, sinkOf, startsAt, endsAt, inCount, outCount, reach, cycleReaching, settled, stronglyConnected}
+use Rattle.rules.specs.Positions.{named, Inside}
 use Rattle.rules.specs.Paths.{noIncoming, entersSettled, settledSources, pathsWithin, pathsTo, delaySum, extreme, extremeSum, smallestSum, largestSum}
 use Rattle.rules.specs.Delay.{saturatingAdd}
 use Rattle.rules.specs.Scene.{Component, rowAt}
@@ -16,14 +17,6 @@ use Rattle.rules.specs.Projection.{compressibleKind, compressed}
 use Rattle.rules.proofs.Lists.{same-test, eq-test, any-same, any-map, keep-same, keep-map, map-same, flat-mapped}
 use Rattle.rules.proofs.Paths.{source-out, before, listed→path}
 use Rattle.rules.proofs.Counts.{count-same, count-map}
-
--- an edge between the names of its ends
-abbrev pub named : (ℕ → ℕ) → Edge → Edge
-named name e = name (sourceOf e) ⟶ name (sinkOf e)
-
--- both ends of every edge are below n
-abbrev pub Inside : ℕ → List Edge → Type 0
-Inside n es = (e : Edge) → List·Memᴰ e es → (sourceOf e < n) × (sinkOf e < n)
 
 module _ (name : ℕ → ℕ) (n : ℕ) (injective : (i j : ℕ) → i < n → j < n → name i ≡ name j → i ≡ j) where
   pub same-named : (u v : ℕ) → u < n → v < n → eqb (name u) (name v) ≡ eqb u v

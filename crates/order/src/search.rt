@@ -4,8 +4,8 @@ ghost use Rattle.rules.specs.Ordered.{keyAt};
 ghost use Rattle.order.specs.Searched.{FirstNotBelow, Searched};
 use rules::positions::Found;
 
-// Answers the first position of the key where `order` is the ordered positions of `keys`. Where it is not, an answer is still a
-// position of the key, but may not be the first, and a key may be missed.
+// Where `order` is the ordered positions of `keys`, answers the first position of the key, or that no position has it. Where it
+// is not, a position that is answered still has the key, but may not be the first, and a key may be missed.
 pub fn find_position(keys: &[u64], order: &[usize], key: u64) -> Found
     ensures { λ r. ⌜ Searched (now (keys .entry)) (now (order .entry)) key r ⌝ }
 {
@@ -21,7 +21,7 @@ pub fn find_position(keys: &[u64], order: &[usize], key: u64) -> Found
     Found::Missing
 }
 
-// The first place whose key is not below the one looked for, or the number of places.
+// The first place whose key is not below the one looked for, or the number of places, where the positions are ordered.
 fn first_not_below(keys: &[u64], order: &[usize], key: u64) -> usize
     ensures { λ r. ⌜ FirstNotBelow (now (keys .entry)) (now (order .entry)) key r ⌝ }
 {

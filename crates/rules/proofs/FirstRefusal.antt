@@ -7,7 +7,7 @@ use Prim.Native.Nat.{ℕ, suc, _-_, _≤_, _<_}
 use native.Mathlib.Omega.{arith}
 use lib.Dec.{T, T-not, not-T, eqb, eqb→eq, ltb, ltb→lt, lt→ltb, nltb→le}
 use Rattle.rules.specs.Lists.{any, from, indices}
-use Rattle.rules.specs.Refusals.{Test, test, firstRefusal, lengthsDiffer}
+use Rattle.rules.specs.Refusals.{Test, test, firstRefusal, lengthsDiffer, rows}
 use Rattle.rules.specs.declared.answers.Checked.{Checked}
 use Rattle.rules.specs.declared.answers.Checked.the-variants.{Accepted, Refused}
 use Rattle.rules.proofs.Lists.{tests, passes, or-none, eq-test, flat-in, flat-out}
@@ -91,24 +91,21 @@ flat-append f (x ∷ a) b = ap (λ l. f x ++ l) (flat-append f a b) ∙ sym (app
 
 -- Rows of tests by index: those of the rows before i accept, and row i accepts or refuses
 module _ (tests-at : ℕ → List Test) where
-  abbrev pub rows : ℕ → List Test
-  rows n = flatMap tests-at (indices n)
-
-  rows-split : (i n : ℕ) → i < n → rows n ≡ rows i ++ (tests-at i ++ flatMap tests-at (from (suc i) (n - suc i)))
+  rows-split : (i n : ℕ) → i < n → rows tests-at n ≡ rows tests-at i ++ (tests-at i ++ flatMap tests-at (from (suc i) (n - suc i)))
   unfolding flatMap
   rows-split i n h =
       ap (flatMap tests-at) (indices-split i n (omega arith) ∙ ap (λ l. indices i ++ l) (from-next i n h)) ∙ flat-append tests-at (indices i) (i ∷ from (suc i) (n - suc i))
 
-  pub rows-start : Accepted ≡ firstRefusal (rows 0)
+  pub rows-start : Accepted ≡ firstRefusal (rows tests-at 0)
   unfolding firstRefusal indices from flatMap
   rows-start = refl
 
-  pub rows-more : (i : ℕ) → Accepted ≡ firstRefusal (rows i) → Accepted ≡ firstRefusal (tests-at i) → Accepted ≡ firstRefusal (rows (suc i))
+  pub rows-more : (i : ℕ) → Accepted ≡ firstRefusal (rows tests-at i) → Accepted ≡ firstRefusal (tests-at i) → Accepted ≡ firstRefusal (rows tests-at (suc i))
   unfolding flatMap
-  rows-more i before here = rw (rows-split i (suc i) (omega arith)) (skip (rows i) (tests-at i ++ flatMap tests-at (from (suc i) (suc i - suc i))) before (rw (from-end (suc i)) (skip (tests-at i) [] here end)))
+  rows-more i before here = rw (rows-split i (suc i) (omega arith)) (skip (rows tests-at i) (tests-at i ++ flatMap tests-at (from (suc i) (suc i - suc i))) before (rw (from-end (suc i)) (skip (tests-at i) [] here end)))
 
-  pub rows-stop : (i n : ℕ) {number place : ℕ} → i < n → Accepted ≡ firstRefusal (rows i) → Refused number place ≡ firstRefusal (tests-at i) → Refused number place ≡ firstRefusal (rows n)
-  rows-stop i n h before here = rw (rows-split i n h) (skip (rows i) (tests-at i ++ flatMap tests-at (from (suc i) (n - suc i))) before (stay (tests-at i) (flatMap tests-at (from (suc i) (n - suc i))) here))
+  pub rows-stop : (i n : ℕ) {number place : ℕ} → i < n → Accepted ≡ firstRefusal (rows tests-at i) → Refused number place ≡ firstRefusal (tests-at i) → Refused number place ≡ firstRefusal (rows tests-at n)
+  rows-stop i n h before here = rw (rows-split i n h) (skip (rows tests-at i) (tests-at i ++ flatMap tests-at (from (suc i) (n - suc i))) before (stay (tests-at i) (flatMap tests-at (from (suc i) (n - suc i))) here))
 
 holds-or-not : (b : Bool) → T b ⊎ (T b → ⊥)
 holds-or-not true = inl tt

@@ -5,8 +5,8 @@ use mathlib.Core.Path.{_≡_, refl, sym, ap, subst}
 use mathlib.Core.Logic.{_⊎_, inl, inr}
 use Prim.Native.Nat.{ℕ}
 use lib.Dec.{T, eqb→eq, eqb-refl}
-use Rattle.rules.specs.Graph.{Edge, _⟶_, sourceOf, sinkOf, reach, Walk, stop, step}
-use Rattle.rules.proofs.Lists.{or-left, or-cases, same-test, eq-test, tests}
+use Rattle.rules.specs.Graph.{Edge, _⟶_, sourceOf, sinkOf, reach, stronglyConnected, Walk, stop, step}
+use Rattle.rules.proofs.Lists.{and-left, and-right, and-both, or-left, or-cases, same-test, eq-test, tests}
 
 abbrev pub Within : List Edge → List Edge → Type 0
 Within es fs = (e : Edge) → List·Memᴰ e es → List·Memᴰ e fs
@@ -37,7 +37,7 @@ reach-refl [] u = eqb-refl u
 reach-refl ((a ⟶ b) ∷ es) u = or-left (reach es u u) _ (reach-refl es u)
 
 module _ (a b : ℕ) (es : List Edge) (ih : (x y : ℕ) → Walk es x y → T (reach es x y)) where
-  -- one more step: along the noIncoming edge, or along another
+  -- one more step: along the first edge, or along another
   first-step : (u w v : ℕ) → u ⟶ w ≡ a ⟶ b → T (reach ((a ⟶ b) ∷ es) w v) → T (reach ((a ⟶ b) ∷ es) u v)
   unfolding reach
   first-step u w v e t = go (or-cases (reach es w v) _ t)
@@ -79,3 +79,12 @@ reach-wider es fs u v h t = walk→reach fs u v (wider h (reach→walk es u v t)
 
 pub reach-same : (es fs : List Edge) → Within es fs → Within fs es → (u v : ℕ) → reach es u v ≡ reach fs u v
 reach-same es fs h k u v = same-test _ _ (reach-wider es fs u v h) (reach-wider fs es u v k)
+
+-- strong connection is a walk each way
+pub connected→ : (es : List Edge) (u v : ℕ) → T (stronglyConnected es u v) → Walk es u v × Walk es v u
+unfolding stronglyConnected
+connected→ es u v t = (reach→walk es u v (and-left (reach es u v) (reach es v u) t), reach→walk es v u (and-right (reach es u v) (reach es v u) t))
+
+pub →connected : (es : List Edge) (u v : ℕ) → Walk es u v → Walk es v u → T (stronglyConnected es u v)
+unfolding stronglyConnected
+→connected es u v p q = and-both (reach es u v) (reach es v u) (walk→reach es u v p) (walk→reach es v u q)

@@ -9,12 +9,12 @@ use lib.Dec.{T, T-not, not-T, eqb, eqb→eq, leb, leb→le, le→leb}
 use Rattle.rules.specs.Lists.{any, keep}
 use Rattle.rules.specs.Kinds.{repeaterCode, comparatorCode, pistonCode}
 use Rattle.rules.specs.Scene.{Component, idOf, rowOf, delayAt, risingIds}
-use Rattle.rules.specs.Graph.{Edge, inCount, reach, stronglyConnected}
+use Rattle.rules.specs.Graph.{Edge, inCount, stronglyConnected}
 use Rattle.rules.specs.Paths.{pathsTo, delaySum, extreme, extremeSum, smallestSum, largestSum, PathTo}
 use Rattle.rules.specs.Reasons.{passive, otherIn, inFeedback, feedback, Reason, unequalReconvergentDelay, statefulOrMechanicalDevice, lockedRepeater, reasonKind, feedbackReason, ownReason, unequalAt, unequalReason, unequalReasonsBy, unequalReasons, temporalReasons, reasons, OnFeedback, UnequalDelay}
 use Rattle.rules.proofs.Lists.{any-in, any-out, keep-in, keep-out, flat-out, eq-test, and-left, and-right, and-both}
 use Rattle.rules.proofs.Permutations.{perm-mem}
-use Rattle.rules.proofs.Reach.{reach→walk, walk→reach}
+use Rattle.rules.proofs.Reach.{connected→, →connected}
 use Rattle.rules.proofs.Paths.{listed→path}
 use Rattle.rules.proofs.Sums.{smaller, larger}
 use Rattle.rules.proofs.Ranges.{sum-is-extreme, extreme-is-sum}
@@ -39,7 +39,7 @@ own-cases c = go (eqb (c .kind) comparatorCode || eqb (c .kind) pistonCode) (eqb
 module _ (cs : List Component) (es : List Edge) where
   -- a component passes the Feedback test exactly if it is on feedback
   pub feedback→ : (c : Component) → T (inFeedback cs (stronglyConnected es) c) → OnFeedback cs es c
-  unfolding inFeedback stronglyConnected
+  unfolding inFeedback
   feedback→ c t =
       let a = and-left (not (passive (rowOf c .node))) (any (otherIn (stronglyConnected es) (c .id)) cs) t in
       let r = any-out (otherIn (stronglyConnected es) (c .id)) cs (and-right (not (passive (rowOf c .node))) _ t) in
@@ -51,17 +51,17 @@ module _ (cs : List Component) (es : List Edge) where
         other = d;
         listed = r .1;
         different = λ e. T-not (eqb (d .id) (c .id)) n (eq-test e);
-        there = reach→walk es (c .id) (d .id) (and-left (reach es (c .id) (d .id)) (reach es (d .id) (c .id)) s);
-        back = reach→walk es (d .id) (c .id) (and-right (reach es (c .id) (d .id)) (reach es (d .id) (c .id)) s);
+        there = connected→ es (c .id) (d .id) s .0;
+        back = connected→ es (c .id) (d .id) s .1;
       }
 
   pub →feedback : (c : Component) → OnFeedback cs es c → T (inFeedback cs (stronglyConnected es) c)
-  unfolding inFeedback stronglyConnected
+  unfolding inFeedback
   →feedback c o =
       and-both (not (passive (rowOf c .node))) _ (not-T (passive (rowOf c .node)) (o .active))
       (any-in (otherIn (stronglyConnected es) (c .id)) (o .listed)
       (and-both (not (eqb (o .other .id) (c .id))) _ (not-T (eqb (o .other .id) (c .id)) (λ t. o .different (eqb→eq (o .other .id) (c .id) t)))
-      (and-both (reach es (c .id) (o .other .id)) _ (walk→reach es (c .id) (o .other .id) (o .there)) (walk→reach es (o .other .id) (c .id) (o .back)))))
+      (→connected es (c .id) (o .other .id) (o .there) (o .back))))
 
   -- list 4 has the id of each component on feedback, and no other
   pub listed-feedback→ : (v : ℕ) → List·Memᴰ v (feedback cs es) → (c : Component) × List·Memᴰ c cs × OnFeedback cs es c × (c .id ≡ v)

@@ -3,7 +3,7 @@ use mathlib.Core.Bool.{Bool, not, cond, _&&_, _||_}
 use mathlib.Core.List.{List, [], _∷_, map, List·Memᴰ}
 use mathlib.Core.Path.{_≡_}
 use Prim.Native.Nat.{ℕ, _<_}
-use lib.Dec.{eqb}
+use lib.Dec.{T, eqb}
 use Rattle.rules.specs.Lists.{any, count, indices}
 
 infix 60 _⟶_
@@ -46,7 +46,7 @@ cycleReaching es v e = reach es (sinkOf e) (sourceOf e) && reach es (sourceOf e)
 unfoldable pub settled : List Edge → ℕ → Bool
 settled es v = not (any (cycleReaching es v) es)
 
--- "a maximal set of vertices of a directed graph in which every vertex is reachable from every other": u and v share theirs
+-- u and v are in one strongly connected component: each is reached from the other
 unfoldable pub stronglyConnected : List Edge → ℕ → ℕ → Bool
 stronglyConnected es u v = reach es u v && reach es v u
 
@@ -78,6 +78,12 @@ OnCycle es u = (w : ℕ) × List·Memᴰ (u ⟶ w) es × Walk es w u
 -- on no cycle and not reachable from one
 abbrev pub Settled : List Edge → ℕ → Type 0
 Settled es v = (u : ℕ) → OnCycle es u → Walk es u v → ⊥
+
+-- A strongly connected component, "a maximal set of vertices of a directed graph in which every vertex is reachable from every other"; the
+-- set is given by its test
+pub record StrongComponent (es : List Edge) (member : ℕ → Bool) : Type 0 where
+  pub joined : (u v : ℕ) → T (member u) → T (member v) → Walk es u v
+  pub maximal : (u v : ℕ) → T (member u) → Walk es u v → Walk es v u → T (member v)
 
 -- of the nodes 0 to n - 1, a different one is reached from v and leads back to it
 pub record OtherInComponent (es : List Edge) (n v : ℕ) : Type 0 where

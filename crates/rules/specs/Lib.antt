@@ -6,6 +6,7 @@ pub mod Kinds
 pub mod Codes
 -- the scene, its edges and paths, and what is said of them:
 pub mod Graph
+pub mod Positions
 pub mod Scene
 pub mod Paths
 pub mod Labels

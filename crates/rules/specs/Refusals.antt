@@ -2,7 +2,7 @@
 -- Assumes nothing: these are definitions.
 use mathlib.Core.Bool.{Bool, false, not, cond, _&&_, _||_}
 use mathlib.Core.List.{List, [], _∷_, _++_, map, flatMap}
-use Prim.Native.Nat.{ℕ, suc, _+_, _*_}
+use Prim.Native.Nat.{ℕ, suc, _+_, _*_, min}
 use lib.Dec.{eqb, ltb}
 use lib.ListN.{length, getD, take}
 use Rattle.rules.specs.Lists.{any, indices, writtenFrom}
@@ -60,10 +60,21 @@ output n k ls = record { number = n; need = k; lengths = ls }
 abbrev pub needOf : (n m list : ℕ) → ℕ
 needOf n m k = getD (m ∷ n ∷ (m + n) ∷ (2 * n + 1) ∷ n ∷ n ∷ m ∷ (2 * m + n) ∷ n ∷ []) k 0
 
--- the output lists of a call, by rising number from one on, each with the lengths of its fields' number lists
+-- the output lists of a call, by rising number from a given one on, each with the lengths of its fields' number lists. A number past 8 is no
+-- list that a scene call writes, and needs nothing
 abbrev pub outputsFrom : (list n m : ℕ) → List (List ℕ) → List Output
 outputsFrom k n m [] = []
 outputsFrom k n m (lengths ∷ lists) = output k (needOf n m k) lengths ∷ outputsFrom (suc k) n m lists
+
+-- the shortest of some lengths, and 0 of none
+abbrev pub shortest : List ℕ → ℕ
+shortest [] = 0
+shortest (n ∷ []) = n
+shortest (n ∷ m ∷ ns) = min n (shortest (m ∷ ns))
+
+-- the same where one length of each list is known, its shortest: proofs/Shortest shows that this is enough
+abbrev pub roomOutputs : (n m list : ℕ) → List ℕ → List Output
+roomOutputs n m k room = outputsFrom k n m (map (λ x. x ∷ []) room)
 
 -- some length is not the first one
 abbrev pub lengthsDiffer : List ℕ → Bool
@@ -105,6 +116,10 @@ endMissing ids n = isEdge n && (not (any (eqb (n .source)) ids) || not (any (eqb
 unfoldable pub connectionTests : ComponentLists → ConnectionLists → ℕ → List Test
 connectionTests l m j = test (badTransfer (connectionAt m j)) 5 j ∷ test (endMissing (l .ids) (connectionAt m j)) 6 j ∷ []
 
+-- the tests of n rows, one by one
+abbrev pub rows : (ℕ → List Test) → ℕ → List Test
+rows tests n = flatMap tests (indices n)
+
 -- 8, 1, 2 and 7
 unfoldable pub sizeTests : SceneLimits → ComponentLists → ConnectionLists → List Output → List Test
 sizeTests limits l m outputs =
@@ -114,8 +129,7 @@ sizeTests limits l m outputs =
 -- "Order for a scene: 8, 1, 2, 7, components one by one (4 then 3), connections one by one (5 then 6)."
 unfoldable pub sceneTests : SceneLimits → ComponentLists → ConnectionLists → List Output → List Test
 sceneTests limits l m outputs =
-    sizeTests limits l m outputs
-    ++ (flatMap (componentTests l) (indices (length (l .ids))) ++ flatMap (connectionTests l m) (indices (length (m .sources))))
+    sizeTests limits l m outputs ++ (rows (componentTests l) (length (l .ids)) ++ rows (connectionTests l m) (length (m .sources)))
 
 unfoldable pub checkScene : SceneLimits → ComponentLists → ConnectionLists → List Output → Checked
 checkScene limits l m outputs = firstRefusal (sceneTests limits l m outputs)

@@ -8,12 +8,12 @@ use native.Mathlib.Omega.{arith}
 use lib.Dec.{T, eqb, eqb→eq, ltb, lt→ltb}
 use lib.ListN.{length, getD}
 use Rattle.rules.specs.Scene.{ComponentLists, componentLists, componentAt}
-use Rattle.rules.specs.Refusals.{test, firstRefusal, outOfRange, usedEarlier, componentTests}
+use Rattle.rules.specs.Refusals.{test, firstRefusal, outOfRange, usedEarlier, componentTests, rows}
 use Rattle.rules.specs.declared.answers.Checked.{Checked}
 use Rattle.rules.specs.declared.answers.Checked.the-variants.{Accepted, Refused}
 use Rattle.rules.proofs.Lists.{tests, chosen, not-chosen, eq-test, same-test, or-none}
 use Rattle.rules.proofs.Sums.{order}
-use Rattle.rules.proofs.FirstRefusal.{within, rows, rows-more, rows-stop}
+use Rattle.rules.proofs.FirstRefusal.{within, rows-more, rows-stop}
 use Rattle.scene.specs.Steps.{FirstRepeat}
 
 -- a refusal's number, or 0 for none

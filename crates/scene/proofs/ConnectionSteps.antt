@@ -10,16 +10,17 @@ use lib.Seq.{take-set-le, take-suc-set, length-take-le}
 use Rattle.rules.specs.Lists.{any, from, indices}
 use Rattle.rules.specs.Ordered.{positionOf}
 use Rattle.rules.specs.Graph.{edgesBetween}
+use Rattle.rules.specs.Positions.{Positioned}
 use Rattle.rules.specs.Scene.{Connection, ConnectionLists, connectionLists, connectionAt, connectionsOf, isEdge, edgesOf}
-use Rattle.rules.specs.Refusals.{firstRefusal, badTransfer, endMissing, connectionTests}
+use Rattle.rules.specs.Refusals.{firstRefusal, badTransfer, endMissing, connectionTests, rows}
 use Rattle.rules.specs.declared.answers.Checked.the-variants.{Accepted, Refused}
 use Rattle.rules.specs.declared.positions.Found.the-variants.{At, Missing}
 use Rattle.rules.proofs.Lists.{tests, and-left, eq-test}
 use Rattle.rules.proofs.Indices.{indices-more, at-mem}
 use Rattle.rules.proofs.Ordering.{position→first, missing→not-any}
 use Rattle.rules.proofs.Acceptance.{ends-known-test}
-use Rattle.rules.proofs.FirstRefusal.{stop, more, end, within, not-both, rows, rows-start, rows-more, rows-stop}
-use Rattle.laws.proofs.PositionEdges.{Positioned, positioned-start, positioned-edge, positioned-support, edgesBetween-append}
+use Rattle.rules.proofs.FirstRefusal.{stop, more, end, within, not-both, rows-start, rows-more, rows-stop}
+use Rattle.laws.proofs.PositionEdges.{positioned-start, positioned-edge, positioned-support, edgesBetween-append}
 use Rattle.scene.specs.Ends.{connection, idsAlone, LookedUp, bad-transfer, end-missing, support, edge, EndsFound}
 
 -- One connection

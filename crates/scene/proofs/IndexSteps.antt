@@ -8,12 +8,12 @@ use lib.ListN.{length, take}
 use Rattle.rules.specs.Lists.{written}
 use Rattle.rules.specs.Ordered.{ordered}
 use Rattle.rules.specs.Scene.{ComponentLists, componentLists, ConnectionLists, componentAt}
-use Rattle.rules.specs.Refusals.{Test, Output, SceneLimits, sceneLimits, firstRefusal, outOfRange, componentTests, connectionTests, sizeTests, sceneTests, checkScene}
+use Rattle.rules.specs.Refusals.{Test, Output, SceneLimits, sceneLimits, firstRefusal, outOfRange, componentTests, connectionTests, sizeTests, sceneTests, checkScene, rows}
 use Rattle.rules.specs.declared.answers.Checked.{Checked}
 use Rattle.rules.specs.declared.answers.Checked.the-variants.{Accepted, Refused}
 use Rattle.rules.proofs.Lists.{and-both, chosen}
 use Rattle.rules.proofs.Ordering.{ordered-front}
-use Rattle.rules.proofs.FirstRefusal.{rows, skip, stay, not-both, at-most, none-holds}
+use Rattle.rules.proofs.FirstRefusal.{skip, stay, not-both, at-most, none-holds}
 use Rattle.rules.proofs.Acceptance.{aligned-components, aligned-connections}
 use Rattle.order.specs.Sorted.{sortFits, SortedPositions}
 use Rattle.scene.specs.Ends.{idsAlone, EndsFound}
@@ -86,6 +86,6 @@ sized l m outputs e =
       locked-length = a .locked-length;
       sinks-length = b .sinks-length;
       transfers-length = b .transfers-length;
-      components-few = at-most 512 (length (l .ids)) (none _ (List·Memᴰ·tail (List·Memᴰ·tail (List·Memᴰ·head refl))));
-      connections-few = at-most 2048 (length (m .sources)) (none _ (List·Memᴰ·tail (List·Memᴰ·tail (List·Memᴰ·tail (List·Memᴰ·head refl)))));
+      components-few = at-most (sceneLimits .components) (length (l .ids)) (none _ (List·Memᴰ·tail (List·Memᴰ·tail (List·Memᴰ·head refl))));
+      connections-few = at-most (sceneLimits .connections) (length (m .sources)) (none _ (List·Memᴰ·tail (List·Memᴰ·tail (List·Memᴰ·tail (List·Memᴰ·head refl)))));
     }

@@ -1,8 +1,10 @@
+-- The tests in their order, step by step:
 pub mod Room
 pub mod SizeSteps
-pub mod ComponentSteps
 pub mod Repeats
+pub mod ComponentSteps
 pub mod ConnectionSteps
+-- a scene that is accepted, and its Feedback:
 pub mod IndexSteps
 pub mod LoopSteps
 pub mod SceneLoops

@@ -10,6 +10,7 @@ use lib.Seq.{take-at}
 use Rattle.rules.specs.Kinds.{kindRow}
 use Rattle.rules.specs.Graph.{edgesBetween, sharedMarks}
 use Rattle.rules.specs.Lists.{any, keep, from, indices, written}
+use Rattle.rules.specs.Refusals.{sceneLimits}
 use Rattle.rules.specs.Reasons.{passive, feedbackReason}
 use Rattle.rules.specs.declared.kinds.TemporalNodeKind.{TemporalNodeKind}
 use Rattle.rules.proofs.Lists.{keep-append, eq-test, same-test, chosen, any-out, tests}
@@ -80,18 +81,21 @@ module _ (starts stops : List ℕ) (n : ℕ) (linked : Linked starts stops n) wh
       let k = mem-at 0 (r .1) in
       omega (arith, leb→le n (r .0) (r .2), h (k .0) (k .1), k .2))
 
-  linked-fits : T (graphFits starts stops n 512 2048 512 512)
+  abbrev fits : Bool
+  fits = graphFits starts stops n (sceneLimits .components) (sceneLimits .connections) (sceneLimits .components) (sceneLimits .components)
+
+  linked-fits : T fits
   unfolding graphFits
   linked-fits =
       let a = eq-test (linked .pairs) in
-      let b = le→leb n 512 (linked .nodes-few) in
-      let c = le→leb (length starts) 2048 (linked .edges-few) in
+      let b = le→leb n (sceneLimits .components) (linked .nodes-few) in
+      let c = le→leb (length starts) (sceneLimits .connections) (linked .edges-few) in
       let d = below starts (inside-sources n starts stops (sym (linked .pairs)) (linked .inside)) in
       let e = below stops (inside-sinks n starts stops (sym (linked .pairs)) (linked .inside)) in
       search tests depth 9
 
-  pub marks-shared : (old new : List ℕ) → new ≡ cond (graphFits starts stops n 512 2048 512 512) (sharedMarks (edgesBetween starts stops) n) old → new ≡ sharedMarks (edgesBetween starts stops) n
-  marks-shared old new e = e ∙ chosen (sharedMarks (edgesBetween starts stops) n) old (graphFits starts stops n 512 2048 512 512) linked-fits
+  pub marks-shared : (old new : List ℕ) → new ≡ cond fits (sharedMarks (edgesBetween starts stops) n) old → new ≡ sharedMarks (edgesBetween starts stops) n
+  marks-shared old new e = e ∙ chosen (sharedMarks (edgesBetween starts stops) n) old fits linked-fits
 
 -- one reason where something is listed
 pub one-reason : (ids : List ℕ) → 0 < length ids → 1 ≡ length (feedbackReason ids)

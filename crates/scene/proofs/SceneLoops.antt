@@ -9,21 +9,21 @@ use lib.ListN.{length, getD, take}
 use lib.Seq.{length-take-le}
 use Rattle.rules.specs.Lists.{indices, written}
 use Rattle.rules.specs.Graph.{Edge, edgesBetween, sharesComponent, sharedMarks}
+use Rattle.rules.specs.Positions.{Positioned}
 use Rattle.rules.specs.Scene.{ComponentLists, ConnectionLists, componentAt, componentsOf, connectionsOf, edgesOf, rowOf, sceneOf}
 use Rattle.rules.specs.Kinds.{kindRow}
 use Rattle.rules.specs.Reasons.{passive, feedback, feedbackReason}
 use Rattle.rules.specs.Feedback.{checkFeedback, feedbackAnswer, FeedbackCall}
-use Rattle.rules.specs.Refusals.{Output, sceneLimits, after, checkScene}
+use Rattle.rules.specs.Refusals.{Output, sceneLimits, after, checkScene, roomOutputs}
 use Rattle.rules.specs.declared.answers.Checked.the-variants.{Accepted, Refused}
 use Rattle.rules.specs.declared.answers.FeedbackAnswer.the-variants as Answer
 use Rattle.rules.proofs.Lists.{keep-same}
 use Rattle.rules.proofs.Distinct.{Distinct}
 use Rattle.rules.proofs.Indices.{indices-below}
 use Rattle.rules.proofs.Acceptance.{AcceptedScene, accepted→}
-use Rattle.laws.proofs.PositionEdges.{Positioned, feedback-by-position, mark-at}
+use Rattle.laws.proofs.PositionEdges.{feedback-by-position, mark-at}
 use Rattle.scene.specs.Indexed.{Positions}
 use Rattle.scene.specs.Loops.{loopIds, sharedIds, Linked}
-use Rattle.scene.specs.Room.{roomOutputs}
 
 mark-set : (b : Bool) → not (eqb (cond b 1 0) 0) ≡ b
 mark-set true = refl
@@ -51,7 +51,7 @@ module _ (l : ComponentLists) (m : ConnectionLists) (old order starts stops : Li
   outputs = roomOutputs (length (l .ids)) (length (m .sources)) 4 (length old ∷ [])
 
   -- the edges of an accepted scene over positions
-  pub accepted-linked : 2048 ≤ length starts → 2048 ≤ length stops → AcceptedScene sceneLimits l m outputs → Positions (l .ids) m order starts stops edgeCount
+  pub accepted-linked : sceneLimits .connections ≤ length starts → sceneLimits .connections ≤ length stops → AcceptedScene sceneLimits l m outputs → Positions (l .ids) m order starts stops edgeCount
       → Linked (take edgeCount starts) (take edgeCount stops) (length (l .ids))
   accepted-linked h k a p = record {
     pairs = length-take-le edgeCount stops (omega (arith, p .edges-few, a .connections-few)) ∙ sym (length-take-le edgeCount starts (omega (arith, p .edges-few, a .connections-few)));

@@ -7,11 +7,10 @@ use lib.ListN.{length, getD, take}
 use Rattle.rules.specs.Ordered.{ordered}
 use Rattle.rules.specs.Graph.{edgesBetween}
 use Rattle.rules.specs.Scene.{ComponentLists, componentLists, Connection, ConnectionLists, isEdge, edgesOf, connectionsOf}
-use Rattle.rules.specs.Refusals.{badTransfer, endMissing, connectionTests, firstRefusal}
+use Rattle.rules.specs.Refusals.{badTransfer, endMissing, connectionTests, firstRefusal, rows}
 use Rattle.rules.specs.declared.answers.Checked.{Checked}
 use Rattle.rules.specs.declared.answers.Checked.the-variants.{Accepted}
-use Rattle.rules.proofs.FirstRefusal.{rows}
-use Rattle.laws.proofs.PositionEdges.{Positioned}
+use Rattle.rules.specs.Positions.{Positioned}
 
 abbrev pub connection : (source sink transfer : ℕ) → Connection
 connection a b t = record { source = a; sink = b; transfer = t }

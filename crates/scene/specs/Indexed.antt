@@ -6,11 +6,10 @@ use lib.ListN.{length, take}
 use Rattle.rules.specs.Ordered.{ordered}
 use Rattle.rules.specs.Graph.{edgesBetween}
 use Rattle.rules.specs.Scene.{ComponentLists, componentLists, ConnectionLists, edgesOf, connectionsOf}
-use Rattle.rules.specs.Refusals.{Output, SceneLimits, firstRefusal, componentTests, connectionTests, checkScene}
+use Rattle.rules.specs.Refusals.{Output, SceneLimits, sceneLimits, firstRefusal, componentTests, connectionTests, checkScene, rows}
 use Rattle.rules.specs.declared.answers.Checked.{Checked}
 use Rattle.rules.specs.declared.answers.Checked.the-variants.{Accepted}
-use Rattle.rules.proofs.FirstRefusal.{rows}
-use Rattle.laws.proofs.PositionEdges.{Positioned}
+use Rattle.rules.specs.Positions.{Positioned}
 use Rattle.scene.specs.Ends.{idsAlone}
 
 -- lists whose lengths are tested: one length for each kind of record, within the limits
@@ -20,14 +19,14 @@ pub record Sized (ids kinds delays locked sources sinks transfers : List ℕ) : 
   pub locked-length : length locked ≡ length ids
   pub sinks-length : length sinks ≡ length sources
   pub transfers-length : length transfers ≡ length sources
-  pub components-few : length ids ≤ 512
-  pub connections-few : length sources ≤ 2048
+  pub components-few : length ids ≤ sceneLimits .components
+  pub connections-few : length sources ≤ sceneLimits .connections
 
 -- lists with an entry for each component, and for each connection, that a scene may have
 pub record IndexRoom (order starts stops : List ℕ) : Type 0 where
-  pub order-room : 512 ≤ length order
-  pub starts-room : 2048 ≤ length starts
-  pub stops-room : 2048 ≤ length stops
+  pub order-room : sceneLimits .components ≤ length order
+  pub starts-room : sceneLimits .connections ≤ length starts
+  pub stops-room : sceneLimits .connections ≤ length stops
 
 -- an accepted scene's ids in order, and its edges over positions
 pub record Positions (ids : List ℕ) (m : ConnectionLists) (order starts stops : List ℕ) (edges : ℕ) : Type 0 where

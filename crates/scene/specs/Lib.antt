@@ -1,5 +1,7 @@
+-- What the functions of the crate promise each other; what the calls promise is in the crate rules. The tests:
 pub mod Room
 pub mod Steps
 pub mod Ends
+-- a scene that is accepted, and its Feedback:
 pub mod Indexed
 pub mod Loops

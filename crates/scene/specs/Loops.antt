@@ -9,7 +9,8 @@ use Rattle.rules.specs.Graph.{edgesBetween, sharedMarks}
 use Rattle.rules.specs.Kinds.{kindRow}
 use Rattle.rules.specs.Lists.{keep, indices}
 use Rattle.rules.specs.Reasons.{passive}
-use Rattle.laws.proofs.Renaming.{Inside}
+use Rattle.rules.specs.Positions.{Inside}
+use Rattle.rules.specs.Refusals.{sceneLimits}
 
 -- the component is neither Wire nor Conductor, and has a mark
 abbrev pub onLoop : (kinds marks : List ℕ) → ℕ → Bool
@@ -32,6 +33,6 @@ sharedIds ids kinds starts stops = loopIds ids kinds (sharedMarks (edgesBetween 
 -- edges between positions below n, within the limits of a scene
 pub record Linked (starts stops : List ℕ) (n : ℕ) : Type 0 where
   pub pairs : length stops ≡ length starts
-  pub nodes-few : n ≤ 512
-  pub edges-few : length starts ≤ 2048
+  pub nodes-few : n ≤ sceneLimits .components
+  pub edges-few : length starts ≤ sceneLimits .connections
   pub inside : Inside n (edgesBetween starts stops)

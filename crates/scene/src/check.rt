@@ -2,15 +2,15 @@
 ghost use mathlib.Core.Path.{_≡_};
 ghost use lib.ListN.{length};
 ghost use Rattle.rules.specs.Scene.{componentLists, connectionLists};
-ghost use Rattle.rules.specs.Refusals.{sceneLimits, checkScene};
-ghost use Rattle.scene.specs.Room.{roomOutputs};
+ghost use Rattle.rules.specs.Refusals.{sceneLimits, checkScene, roomOutputs};
 use crate::index::index_scene;
 use rules::answers::Checked;
 use rules::limits::MAX_COMPONENTS;
 use rules::limits::MAX_CONNECTIONS;
 
-// The first refusal of the scene, or that there is none. room has, for each output list from the list of number
-// first on, the length of its shortest number list.
+// The first refusal of the scene, or that there is none. room has, for each output list that is to be written, from
+// the list of number first on, the length of its shortest number list; where it is empty no list is tested. A number
+// past 8 is no list of a scene and needs nothing.
 pub fn check_scene(
     ids: &[u64],
     kinds: &[u8],

@@ -7,8 +7,7 @@ ghost use lib.Dec.{eqb, ltb};
 ghost use lib.ListN.{length, getD};
 ghost use Rattle.rules.specs.Ordered.{ordered};
 ghost use Rattle.rules.specs.Scene.{componentLists};
-ghost use Rattle.rules.specs.Refusals.{firstRefusal, componentTests};
-ghost use Rattle.rules.proofs.FirstRefusal.{rows};
+ghost use Rattle.rules.specs.Refusals.{firstRefusal, componentTests, rows};
 ghost use Rattle.scene.specs.Steps.{FirstRepeat, Rows};
 use rules::answers::Checked;
 

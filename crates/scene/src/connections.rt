@@ -15,6 +15,7 @@ pub(crate) struct LinkEnds {
     pub stop: usize,
 }
 
+// Tests one connection, and looks its ends up where it is an edge.
 fn look_up(ids: &[u64], order: &[usize], source: u64, sink: u64, transfer: u8) -> LinkEnds
     requires { ⌜ now order ≡ ordered (now ids) ⌝ }
     ensures { λ r. ⌜ LookedUp (now (ids .entry)) (connection source sink transfer) (r .refusal) (r .edges) (r .start) (r .stop) ⌝ }

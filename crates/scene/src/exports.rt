@@ -1,12 +1,12 @@
-// The calls for C: a slice is a pointer and a length, and an answer is its numbers.
+// The calls for C. A list is a pointer and the number of its entries, and an answer is its numbers. No list that is
+// written may overlap another. A call keeps nothing after it returns.
 ghost use mathlib.Core.Path.{_≡_};
 ghost use mathlib.Core.List.{[], _∷_};
 ghost use lib.ListN.{length};
 ghost use Rattle.rules.specs.Feedback.{FeedbackCall, feedbackNumbers};
 ghost use Rattle.rules.specs.Scene.{componentLists, connectionLists};
-ghost use Rattle.rules.specs.Refusals.{sceneLimits, checkScene, refusalNumber, refusalPlace};
+ghost use Rattle.rules.specs.Refusals.{sceneLimits, checkScene, refusalNumber, refusalPlace, roomOutputs};
 ghost use Rattle.rules.specs.declared.answers.FeedbackAnswer.{FeedbackAnswer};
-ghost use Rattle.scene.specs.Room.{roomOutputs};
 use crate::check::check_scene;
 use crate::feedback::feedback_scene;
 use rules::answers::Checked;
@@ -64,7 +64,8 @@ pub extern "C" fn sizhbanto_check_scene(
     }
 }
 
-// The number and place of a refusal, then how many ids are listed and how many Feedback reasons there are.
+// The number and place of a refusal, 0 and 0 where the scene is accepted; then how many ids are listed and how many
+// Feedback reasons there are, 0 and 0 under a refusal.
 #[repr(C)]
 pub struct FeedbackNumbers {
     pub number: u32,

@@ -4,8 +4,7 @@ ghost use Prim.Native.Nat.{_≤_};
 ghost use lib.ListN.{length, take};
 ghost use Rattle.rules.specs.Ordered.{ordered};
 ghost use Rattle.rules.specs.Scene.{componentLists, connectionLists};
-ghost use Rattle.rules.specs.Refusals.{sceneLimits};
-ghost use Rattle.scene.specs.Room.{roomOutputs};
+ghost use Rattle.rules.specs.Refusals.{sceneLimits, roomOutputs};
 ghost use Rattle.scene.specs.Indexed.{Sized, Indexed, RowsIndexed, IndexRoom};
 use crate::components::check_components;
 use crate::components::first_repeat;
@@ -18,7 +17,7 @@ use rules::limits::MAX_COMPONENTS;
 
 // Writes the ordered positions of the ids to the front of order.
 fn order_ids(ids: &[u64], order: &mut [usize])
-    requires { ⌜ (length (now ids) ≤ 512) × (512 ≤ length (now order)) ⌝ }
+    requires { ⌜ (length (now ids) ≤ sceneLimits .components) × (sceneLimits .components ≤ length (now order)) ⌝ }
     ensures { λ _. ⌜ take (length (now (ids .entry))) (now (order .exit)) ≡ ordered (now (ids .entry)) ⌝ }
 {
     let mut scratch = [0usize; MAX_COMPONENTS];

@@ -3,8 +3,8 @@ ghost use mathlib.Core.Path.{_≡_};
 ghost use Prim.Native.Nat.{_≤_};
 ghost use lib.ListN.{length};
 ghost use Rattle.rules.specs.Scene.{componentLists, connectionLists};
-ghost use Rattle.rules.specs.Refusals.{firstRefusal, lengthsDiffer, needOf, sceneLimits, sizeTests};
-ghost use Rattle.scene.specs.Room.{roomTests, roomOutputs};
+ghost use Rattle.rules.specs.Refusals.{firstRefusal, lengthsDiffer, needOf, sceneLimits, sizeTests, roomOutputs};
+ghost use Rattle.scene.specs.Room.{roomTests};
 use rules::answers::Checked;
 use rules::limits::MAX_COMPONENTS;
 use rules::limits::MAX_CONNECTIONS;
@@ -25,7 +25,7 @@ pub(crate) fn lengths_differ(lengths: &[usize]) -> bool
 
 // The length that an output list needs, by its number, for n components and m connections.
 fn need_of(n: usize, m: usize, list: usize) -> usize
-    requires { ⌜ (n ≤ 512) × (m ≤ 2048) ⌝ }
+    requires { ⌜ (n ≤ sceneLimits .components) × (m ≤ sceneLimits .connections) ⌝ }
     ensures { λ r. ⌜ r ≡ needOf n m list ⌝ }
 {
     match list {
@@ -45,7 +45,7 @@ fn need_of(n: usize, m: usize, list: usize) -> usize
 // 7: the first output list that is shorter than needed. room has the length of the shortest number list of each
 // output list, from the list of number first on; past list 8 there is none to test.
 fn check_room(n: usize, m: usize, first: usize, room: &[usize]) -> Checked
-    requires { ⌜ (n ≤ 512) × (m ≤ 2048) ⌝ }
+    requires { ⌜ (n ≤ sceneLimits .components) × (m ≤ sceneLimits .connections) ⌝ }
     ensures { λ r. ⌜ r ≡ firstRefusal (roomTests n m first (now (room .entry))) ⌝ }
 {
     let mut list = first;

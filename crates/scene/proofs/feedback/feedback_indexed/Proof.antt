@@ -6,9 +6,8 @@ use borrow.Author.Needs.{needs}
 use lib.ListN.{length}
 use lib.Seq.{length-take-le}
 use Rattle.rules.specs.Scene.{componentLists, connectionLists}
-use Rattle.rules.specs.Refusals.{sceneLimits}
+use Rattle.rules.specs.Refusals.{sceneLimits, roomOutputs}
 use Rattle.rules.proofs.Acceptance.{accepted→}
-use Rattle.scene.specs.Room.{roomOutputs}
 use Rattle.scene.proofs.SceneLoops.{accepted-linked, accepted-room, call-refused, call-listed}
 use borrow.Author.Needs.{needs}
 use Rattle.scene.proofs.feedback.feedback_indexed.Statement.{statement}

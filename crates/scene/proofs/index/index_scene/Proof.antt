@@ -3,7 +3,7 @@ use mathlib.Core.Path.{sym, _∙_}
 use borrow.Author.Needs.{needs}
 use lib.ListN.{length}
 use Rattle.rules.specs.Scene.{componentLists, connectionLists}
-use Rattle.scene.specs.Room.{roomOutputs}
+use Rattle.rules.specs.Refusals.{roomOutputs}
 use Rattle.scene.proofs.IndexSteps.{sized, sizes-refused, rows-indexed}
 use borrow.Author.Needs.{needs}
 use Rattle.scene.proofs.index.index_scene.Statement.{statement}
