@@ -1,5 +1,5 @@
 -- The neighbours that linked edges list are where the edges lead. Assumes nothing.
-use mathlib.Core.List.{List, [], _∷_, map, List·Memᴰ, List·Memᴰ·head, List·Memᴰ·tail, List·Memᴰ·not-nil, List·Memᴰ·cases-cons, Memᴰ·cast}
+use mathlib.Core.List.{List, [], _∷_, map, List·Memᴰ, List·Memᴰ·head, List·Memᴰ·tail, List·Memᴰ·not-nil, List·Memᴰ·cases-cons, Memᴰ·cast, Memᴰ·map, Memᴰ·of-map}
 use mathlib.Core.Logic.{⊎-elim}
 use mathlib.Core.Path.{_≡_, refl, sym, ap, subst}
 use Prim.Native.Nat.{ℕ, zero, suc, _<_}
@@ -47,14 +47,6 @@ joins-edge sources sinks j = Memᴰ·cast (let z : _ ⟶ _ ≡ getD sources (j .
 pub turn : (sources sinks : List ℕ) {u v : ℕ} → List·Memᴰ (u ⟶ v) (edgesBetween sources sinks) → List·Memᴰ (v ⟶ u) (edgesBetween sinks sources)
 turn sources sinks m = let j = edge-joins sources sinks m in joins-edge sinks sources (record { at = j .at; listed = j .paired; paired = j .listed; source = j .sink; sink = j .source })
 
-mem-map : (f : ℕ → ℕ) {e : ℕ} {l : List ℕ} → List·Memᴰ e l → List·Memᴰ (f e) (map f l)
-mem-map f (List·Memᴰ·head q) = List·Memᴰ·head (ap f q)
-mem-map f (List·Memᴰ·tail m) = List·Memᴰ·tail (mem-map f m)
-
-map-mem : (f : ℕ → ℕ) (v : ℕ) (l : List ℕ) → List·Memᴰ v (map f l) → (e : ℕ) × List·Memᴰ e l × (v ≡ f e)
-map-mem f v [] m = absurd (List·Memᴰ·not-nil m)
-map-mem f v (x ∷ l) m = ⊎-elim (λ q. (x, List·Memᴰ·head refl, q)) (λ m′. let t = map-mem f v l m′ in (t .0, List·Memᴰ·tail (t .1), t .2)) (List·Memᴰ·cases-cons m)
-
 -- next lists where the edges lead from each node below n
 pub record Leads (es : List Edge) (n : ℕ) (next : ℕ → List ℕ) : Type 0 where
   pub only : (u v : ℕ) → u < n → List·Memᴰ v (next u) → List·Memᴰ (u ⟶ v) es
@@ -64,16 +56,16 @@ module _ (sources sinks head next : List ℕ) (pairs : length sinks ≡ length s
   listed-only : (u v : ℕ) → u < length head → List·Memᴰ v (neighbours head next sinks u) → List·Memᴰ (u ⟶ v) (edgesBetween sources sinks)
   unfolding ends leaving
   listed-only u v l m =
-      let t = map-mem (λ k. getD sinks k 0) v (leaving sources u) (subst (λ c. List·Memᴰ v (map (λ k. getD sinks k 0) c)) (ix .lists u l) m) in
+      let t = Memᴰ·of-map (λ k. getD sinks k 0) (leaving sources u) (subst (λ c. List·Memᴰ v (map (λ k. getD sinks k 0) c)) (ix .lists u l) m) in
       let o = keep-out (λ e. eqb (getD sources e 0) u) _ (t .1) in
       let h : t .0 < length sources = indices-below (length sources) (o .0) in
-      joins-edge sources sinks (record { at = t .0; listed = h; paired = omega (arith, h); source = eqb→eq _ _ (o .1); sink = sym (t .2) })
+      joins-edge sources sinks (record { at = t .0; listed = h; paired = omega (arith, h); source = eqb→eq _ _ (o .1); sink = t .2 })
 
   listed-every : (u v : ℕ) → u < length head → List·Memᴰ (u ⟶ v) (edgesBetween sources sinks) → List·Memᴰ v (neighbours head next sinks u)
   unfolding ends leaving
   listed-every u v l m =
       let j = edge-joins sources sinks m in
-      rw (ix .lists u l) (Memᴰ·cast (sym (j .sink)) (mem-map (λ k. getD sinks k 0) (keep-in (λ e. eqb (getD sources e 0) u) (below-indices (length sources) (j .listed)) (eq-test (j .source)))))
+      rw (ix .lists u l) (Memᴰ·cast (sym (j .sink)) (Memᴰ·map (λ k. getD sinks k 0) (keep-in (λ e. eqb (getD sources e 0) u) (below-indices (length sources) (j .listed)) (eq-test (j .source)))))
 
   pub leads : Leads (edgesBetween sources sinks) (length head) (neighbours head next sinks)
   leads = record { only = listed-only; every = listed-every }

@@ -1,70 +1,33 @@
 -- What a visit and a walk make of the order written so far. Assumes nothing.
-use mathlib.Core.List.{List, [], _∷_, _++_, append-assoc}
-use mathlib.Core.Path.{_≡_, refl, sym, ap, subst, _∙_}
+use mathlib.Core.List.{List, [], _∷_, _++_}
+use mathlib.Core.Path.{_≡_, refl, sym, subst, _∙_}
 use Prim.Native.Nat.{ℕ, suc, _+_, _<_, _≤_}
 use native.Mathlib.Nat.{add-zero}
 use native.Mathlib.Omega.{arith}
-use lib.ListN.{length, getD, set, take, drop, length-set, length-append, take-append-drop}
-use lib.Seq.{length-take-le, drop-cons, set-at, take-at, drop-at, drop-drop}
-use Rattle.rules.specs.Lists.{writtenFrom, from, indices}
+use lib.ListN.{length, getD, set, length-set, length-append}
+use Rattle.rules.specs.Lists.{from, indices}
 use Rattle.rules.proofs.Indices.{indices-more}
+use Rattle.rules.proofs.Written.{from-none, from-more, from-twice}
 use Rattle.graph.specs.Adjacency.{ends, neighbours}
 use Rattle.graph.specs.Visits.{unseen, done, skip, enter, Ready, Visited}
 use Rattle.graph.proofs.Chains.{Passed, passed-more, passed-all}
 use Rattle.graph.proofs.Visits.{unseen-mark, dfs-length, dfs-count, dfs-append}
 
--- nothing written
-written-none : (order : List ℕ) (count : ℕ) → order ≡ writtenFrom count order []
-unfolding writtenFrom
-written-none order count = rw (add-zero count) (sym (take-append-drop count order))
-
-front-length : (order out : List ℕ) (count : ℕ) → count ≤ length order → length (take count order ++ out) ≡ count + length out
-front-length order out count h = rw (length-append (take count order) out, length-take-le count order h)
-
--- one more, after what was written
-written-more : (order out : List ℕ) (count u : ℕ) → count + length out < length order → set (writtenFrom count order out) (count + length out) u ≡ writtenFrom count order (out ++ (u ∷ []))
-unfolding writtenFrom
-written-more order out count u h =
-    let k : ℕ = count + length out in
-    let longer : count + length (out ++ (u ∷ [])) ≡ suc k = omega (arith, length-append out (u ∷ [])) in
-    ap (λ l. set (take count order ++ (out ++ l)) k u) (drop-cons order k 0 h)
-    ∙ ap (λ l. set l k u) (sym (append-assoc (take count order) out (getD order k 0 ∷ drop (suc k) order)))
-    ∙ set-at (take count order ++ out) (getD order k 0) (drop (suc k) order) u k (front-length order out count (omega arith))
-    ∙ append-assoc (take count order) out (u ∷ drop (suc k) order)
-    ∙ ap (λ l. take count order ++ l) (sym (append-assoc out (u ∷ []) (drop (suc k) order)))
-    ∙ ap (λ j. take count order ++ ((out ++ (u ∷ [])) ++ drop j order)) (sym longer)
-
--- one row after another
-written-twice : (order o₁ o₂ : List ℕ) (count : ℕ) → count ≤ length order → writtenFrom (count + length o₁) (writtenFrom count order o₁) o₂ ≡ writtenFrom count order (o₁ ++ o₂)
-unfolding writtenFrom
-written-twice order o₁ o₂ count h =
-    let k : ℕ = count + length o₁ in
-    let p : List ℕ = take count order ++ o₁ in
-    let split : take count order ++ (o₁ ++ drop k order) ≡ p ++ drop k order = sym (append-assoc (take count order) o₁ (drop k order)) in
-    let len : length p ≡ k = front-length order o₁ count h in
-    let sum : count + length (o₁ ++ o₂) ≡ k + length o₂ = omega (arith, length-append o₁ o₂) in
-    ap (λ l. take k l ++ (o₂ ++ drop (k + length o₂) l)) split
-    ∙ ap (λ l. l ++ (o₂ ++ drop (k + length o₂) (p ++ drop k order))) (take-at p (drop k order) k len)
-    ∙ ap (λ l. p ++ (o₂ ++ l)) (sym (drop-drop (length o₂) k (p ++ drop k order)) ∙ ap (drop (length o₂)) (drop-at p (drop k order) k len) ∙ drop-drop (length o₂) k order)
-    ∙ append-assoc (take count order) o₁ (o₂ ++ drop (k + length o₂) order)
-    ∙ ap (λ l. take count order ++ l) (sym (append-assoc o₁ o₂ (drop (k + length o₂) order)))
-    ∙ ap (λ j. take count order ++ ((o₁ ++ o₂) ++ drop j order)) (sym sum)
-
 pub visited-none : (head next sinks s order : List ℕ) (count : ℕ) → Visited head next sinks [] s order count s order count
-visited-none head next sinks s order count = record { out = []; dfs = done; result = sym (add-zero count); written = written-none order count }
+visited-none head next sinks s order count = record { out = []; dfs = done; result = sym (add-zero count); written = sym (from-none order count) }
 
 pub visited-append : {head next sinks us vs s order s₁ order₁ s₂ order₂ : List ℕ} {count c r : ℕ} → count ≤ length order → Visited head next sinks us s order count s₁ order₁ c → Visited head next sinks vs s₁ order₁ c s₂ order₂ r → Visited head next sinks (us ++ vs) s order count s₂ order₂ r
 visited-append {order} {count} h v w = record {
   out = v .out ++ w .out;
   dfs = dfs-append (v .dfs) (w .dfs);
   result = omega (arith, v .result, w .result, length-append (v .out) (w .out));
-  written = w .written ∙ rw (v .written, v .result) (written-twice order (v .out) (w .out) count h);
+  written = w .written ∙ rw (v .written, v .result) (from-twice order (v .out) (w .out) count h);
 }
 
 module _ {head next sinks s order : List ℕ} {count : ℕ} (now : Ready head next sinks s order count) where
   -- a node that was seen
   pub visit-old : (u : ℕ) → (getD s u 0 ≡ 0 → ⊥) → Visited head next sinks (u ∷ []) s order count s order count
-  visit-old u h = record { out = []; dfs = skip h done; result = sym (add-zero count); written = written-none order count }
+  visit-old u h = record { out = []; dfs = skip h done; result = sym (add-zero count); written = sym (from-none order count) }
 
   -- a new node u: what the walk is given, and what becomes of its answer
   module _ (u : ℕ) (l : u < length head) (new : getD s u 0 ≡ 0) where
@@ -89,7 +52,7 @@ module _ {head next sinks s order : List ℕ} {count : ℕ} (now : Ready head ne
         out = w .out ++ (u ∷ []);
         dfs = enter in-marks new (w .dfs) done;
         result = omega (arith, w .result, length-append (w .out) (u ∷ []));
-        written = rw (w .written, w .result) (written-more order (w .out) count u (omega (arith, place, w .result)));
+        written = rw (w .written, w .result) (from-more order (w .out) count u (omega (arith, place, w .result)));
       }
 
   module _ {us s₁ order₁ : List ℕ} {c : ℕ} (v : Visited head next sinks us s order count s₁ order₁ c) (kept : length order₁ ≡ length order) where

@@ -1,5 +1,4 @@
 -- Facts that the proofs of the functions share:
-pub mod Filling
 pub mod Merging
 pub mod Halves
 pub mod Whole

@@ -1,11 +1,11 @@
 -- What a list holds after new entries were written to its front. Assumes nothing.
-use mathlib.Core.List.{List, [], _∷_, _++_}
+use mathlib.Core.List.{List, [], _∷_, _++_, append-assoc}
 use mathlib.Core.Path.{_≡_, sym, ap, _∙_}
-use Prim.Native.Nat.{ℕ, suc, _≤_, _<_}
-use native.Mathlib.Nat.{zero-add}
+use Prim.Native.Nat.{ℕ, suc, _+_, _≤_, _<_}
+use native.Mathlib.Nat.{zero-add, add-zero}
 use native.Mathlib.Omega.{arith}
-use lib.ListN.{length, getD, drop, set, length-append, List·getD-append}
-use lib.Seq.{drop-cons, append-snoc, set-append-seam}
+use lib.ListN.{length, getD, take, drop, set, length-append, take-append-drop, List·getD-append}
+use lib.Seq.{length-take-le, drop-cons, set-at, take-at, drop-at, drop-drop}
 use Rattle.rules.specs.Lists.{writtenFrom, written}
 
 module _ {A : Type 0} (old new : List A) where
@@ -20,14 +20,47 @@ module _ {A : Type 0} (old new : List A) where
   pub written-length : length new ≤ length (written old new)
   written-length = omega (arith, ap length written-parts, length-append new (drop (length new) old))
 
--- nothing is written yet, and one entry more is written
-module _ {A : Type 0} (old : List A) where
-  pub written-none : written old [] ≡ old
-  written-none = written-parts old []
+module _ {A : Type 0} where
+  -- nothing is written yet
+  pub from-none : (old : List A) (start : ℕ) → writtenFrom start old [] ≡ old
+  unfolding writtenFrom
+  from-none old start = rw (add-zero start) (take-append-drop start old)
 
-  pub written-more : (new : List A) (x : A) → length new < length old → written old (new ++ (x ∷ [])) ≡ set (written old new) (length new) x
-  written-more new x h = written-parts old (new ++ (x ∷ [])) ∙ append-snoc new x (drop (length (new ++ (x ∷ []))) old) ∙ ap (λ k. new ++ (x ∷ drop k old)) longer
-      ∙ sym (ap (λ l. set l (length new) x) (written-parts old new ∙ ap (λ l. new ++ l) (drop-cons old (length new) x h)) ∙ set-append-seam new (getD old (length new) x) (drop (suc (length new)) old) x)
-    where
-      longer : length (new ++ (x ∷ [])) ≡ suc (length new)
-      longer = omega (arith, length-append new (x ∷ []))
+  front-length : (old new : List A) (start : ℕ) → start ≤ length old → length (take start old ++ new) ≡ start + length new
+  front-length old new start h = rw (length-append (take start old) new, length-take-le start old h)
+
+  -- one entry more is written
+  pub from-more : (old new : List A) (start : ℕ) (x : A) → start + length new < length old → set (writtenFrom start old new) (start + length new) x ≡ writtenFrom start old (new ++ (x ∷ []))
+  unfolding writtenFrom
+  from-more old new start x h =
+      let k : ℕ = start + length new in
+      let longer : start + length (new ++ (x ∷ [])) ≡ suc k = omega (arith, length-append new (x ∷ [])) in
+      ap (λ l. set (take start old ++ (new ++ l)) k x) (drop-cons old k x h)
+      ∙ ap (λ l. set l k x) (sym (append-assoc (take start old) new (getD old k x ∷ drop (suc k) old)))
+      ∙ set-at (take start old ++ new) (getD old k x) (drop (suc k) old) x k (front-length old new start (omega arith))
+      ∙ append-assoc (take start old) new (x ∷ drop (suc k) old)
+      ∙ ap (λ l. take start old ++ l) (sym (append-assoc new (x ∷ []) (drop (suc k) old)))
+      ∙ ap (λ j. take start old ++ ((new ++ (x ∷ [])) ++ drop j old)) (sym longer)
+
+  -- one row after another
+  pub from-twice : (old a b : List A) (start : ℕ) → start ≤ length old → writtenFrom (start + length a) (writtenFrom start old a) b ≡ writtenFrom start old (a ++ b)
+  unfolding writtenFrom
+  from-twice old a b start h =
+      let k : ℕ = start + length a in
+      let p : List A = take start old ++ a in
+      let split : take start old ++ (a ++ drop k old) ≡ p ++ drop k old = sym (append-assoc (take start old) a (drop k old)) in
+      let len : length p ≡ k = front-length old a start h in
+      let sum : start + length (a ++ b) ≡ k + length b = omega (arith, length-append a b) in
+      ap (λ l. take k l ++ (b ++ drop (k + length b) l)) split
+      ∙ ap (λ l. l ++ (b ++ drop (k + length b) (p ++ drop k old))) (take-at p (drop k old) k len)
+      ∙ ap (λ l. p ++ (b ++ l)) (sym (drop-drop (length b) k (p ++ drop k old)) ∙ ap (drop (length b)) (drop-at p (drop k old) k len) ∙ drop-drop (length b) k old)
+      ∙ append-assoc (take start old) a (b ++ drop (k + length b) old)
+      ∙ ap (λ l. take start old ++ l) (sym (append-assoc a b (drop (k + length b) old)))
+      ∙ ap (λ j. take start old ++ ((a ++ b) ++ drop j old)) (sym sum)
+
+  -- the same from the front
+  pub written-none : (old : List A) → written old [] ≡ old
+  written-none old = from-none old 0
+
+  pub written-more : (old new : List A) (x : A) → length new < length old → written old (new ++ (x ∷ [])) ≡ set (written old new) (length new) x
+  written-more old new x h = let e : 0 + length new ≡ length new = omega arith in sym (rw e at (from-more old new 0 x (omega arith)))

@@ -4,19 +4,20 @@ use mathlib.Core.List.{List, [], _∷_, _++_, map, map-append, append-nil}
 use mathlib.Core.Path.{_≡_, refl, sym, ap, subst, _∙_}
 use Prim.Native.Nat.{ℕ, _+_, _<_, _≤_}
 use native.Mathlib.Omega.{arith}
-use lib.Dec.{T, not-T, eqb, eqb→eq, leb, leb→le, le→leb}
+use lib.Dec.{T, eqb, eqb→eq, le→leb}
 use lib.ListN.{length, getD, take, set, length-append}
 use lib.Seq.{take-at}
 use Rattle.rules.specs.Kinds.{kindRow}
 use Rattle.rules.specs.Graph.{edgesBetween, sharedMarks}
-use Rattle.rules.specs.Lists.{any, keep, from, indices, written}
+use Rattle.rules.specs.Lists.{keep, from, indices, written}
 use Rattle.rules.specs.Refusals.{sceneLimits}
 use Rattle.rules.specs.Reasons.{passive, feedbackReason}
 use Rattle.rules.specs.declared.kinds.TemporalNodeKind.{TemporalNodeKind}
-use Rattle.rules.proofs.Lists.{keep-append, eq-test, same-test, chosen, any-out, tests}
-use Rattle.rules.proofs.Indices.{indices-more, mem-at}
+use Rattle.rules.proofs.Lists.{keep-append, eq-test, same-test, chosen, tests}
+use Rattle.rules.proofs.Indices.{indices-more}
 use Rattle.rules.proofs.Written.{written-none, written-more}
-use Rattle.graph.specs.Fits.{endsBelow, graphFits}
+use Rattle.graph.specs.Fits.{graphFits}
+use Rattle.graph.proofs.Fitting.{ends-all}
 use Rattle.laws.proofs.PositionEdges.{inside-sources, inside-sinks}
 use Rattle.scene.specs.Loops.{onLoop, loopIds, sharedIds, Linked}
 
@@ -74,13 +75,6 @@ module _ (ids kinds marks old : List ℕ) where
 
 -- edges between positions are a graph, with room in lists of the limits' lengths
 module _ (starts stops : List ℕ) (n : ℕ) (linked : Linked starts stops n) where
-  below : (ends : List ℕ) → ((i : ℕ) → i < length ends → getD ends i 0 < n) → T (endsBelow n ends)
-  unfolding endsBelow
-  below ends h = not-T (any (leb n) ends) (λ t.
-      let r = any-out (leb n) ends t in
-      let k = mem-at 0 (r .1) in
-      omega (arith, leb→le n (r .0) (r .2), h (k .0) (k .1), k .2))
-
   abbrev fits : Bool
   fits = graphFits starts stops n (sceneLimits .components) (sceneLimits .connections) (sceneLimits .components) (sceneLimits .components)
 
@@ -90,8 +84,8 @@ module _ (starts stops : List ℕ) (n : ℕ) (linked : Linked starts stops n) wh
       let a = eq-test (linked .pairs) in
       let b = le→leb n (sceneLimits .components) (linked .nodes-few) in
       let c = le→leb (length starts) (sceneLimits .connections) (linked .edges-few) in
-      let d = below starts (inside-sources n starts stops (sym (linked .pairs)) (linked .inside)) in
-      let e = below stops (inside-sinks n starts stops (sym (linked .pairs)) (linked .inside)) in
+      let d = subst T (ends-all n starts (inside-sources n starts stops (sym (linked .pairs)) (linked .inside))) tt in
+      let e = subst T (ends-all n stops (inside-sinks n starts stops (sym (linked .pairs)) (linked .inside))) tt in
       search tests depth 9
 
   pub marks-shared : (old new : List ℕ) → new ≡ cond fits (sharedMarks (edgesBetween starts stops) n) old → new ≡ sharedMarks (edgesBetween starts stops) n
