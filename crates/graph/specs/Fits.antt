@@ -1,10 +1,12 @@
--- Which lists make a graph, with room to work in. Assumes nothing: these are definitions.
-use mathlib.Core.Bool.{Bool, not, _&&_}
+-- Which lists make a graph, with room to work in, and what marking its shared components promises. Assumes nothing: these are definitions.
+use mathlib.Core.Bool.{Bool, false, not, cond, _&&_}
 use mathlib.Core.List.{List}
+use mathlib.Core.Path.{_≡_}
 use Prim.Native.Nat.{ℕ}
 use lib.Dec.{eqb, leb}
 use lib.ListN.{length}
 use Rattle.rules.specs.Lists.{any}
+use Rattle.rules.specs.Graph.{edgesBetween, sharedMarks}
 
 -- no end is n or more: each is one of the nodes 0 to n - 1
 unfoldable pub endsBelow : ℕ → List ℕ → Bool
@@ -20,3 +22,9 @@ graphFits sources sinks n head next order group =
     && leb n group
     && endsBelow n sources
     && endsBelow n sinks
+
+-- the call: its answer, and what the lists hold after it. Where the lists fit, what head, next, order and group hold then is open
+pub record SharedMarked (sources sinks marks head next order group marks′ head′ next′ order′ group′ : List ℕ) (r : Bool) : Type 0 where
+  pub answer : r ≡ graphFits sources sinks (length marks) (length head) (length next) (length order) (length group)
+  pub marked : marks′ ≡ cond r (sharedMarks (edgesBetween sources sinks) (length marks)) marks
+  pub refused : r ≡ false → (head′ ≡ head) × (next′ ≡ next) × (order′ ≡ order) × (group′ ≡ group)

@@ -1,12 +1,10 @@
 // Strongly connected components of a graph whose nodes are the numbers below n.
-ghost use mathlib.Core.Bool.{false, cond};
 ghost use mathlib.Core.Path.{_≡_};
-ghost use lib.ListN.{length};
-ghost use Rattle.rules.specs.Graph.{edgesBetween, sharedMarks};
-ghost use Rattle.graph.specs.Fits.{endsBelow, graphFits};
+ghost use Rattle.graph.specs.Fits.{SharedMarked, endsBelow, graphFits};
 use crate::components::mark_shared;
 use crate::components::strongly_connected_components;
 
+pub mod exports; // exports.rt: the calls for C
 mod adjacency; // adjacency.rt: edges linked by the node that they leave
 mod visit_order; // visit_order.rt: depth-first visits, and the order in which they leave the nodes
 mod collect; // collect.rt: what a node reaches through nodes not seen yet
@@ -26,9 +24,7 @@ pub fn mark_shared_components(
     order: &mut [usize],
     group: &mut [usize],
 ) -> bool
-    ensures fits { λ r. ⌜ r ≡ graphFits (now (sources .entry)) (now (sinks .entry)) (length (now (marks .entry))) (length (now (head .entry))) (length (now (next .entry))) (length (now (order .entry))) (length (now (group .entry))) ⌝ }
-    ensures marked { λ _. ⌜ now (marks .exit) ≡ cond (graphFits (now (sources .entry)) (now (sinks .entry)) (length (now (marks .entry))) (length (now (head .entry))) (length (now (next .entry))) (length (now (order .entry))) (length (now (group .entry)))) (sharedMarks (edgesBetween (now (sources .entry)) (now (sinks .entry))) (length (now (marks .entry)))) (now (marks .entry)) ⌝ }
-    ensures kept { λ r. ⌜ (r ≡ false → (now (head .exit) ≡ now (head .entry)) × (now (next .exit) ≡ now (next .entry)) × (now (order .exit) ≡ now (order .entry)) × (now (group .exit) ≡ now (group .entry))) ⌝ }
+    ensures { λ r. ⌜ SharedMarked (now (sources .entry)) (now (sinks .entry)) (now (marks .entry)) (now (head .entry)) (now (next .entry)) (now (order .entry)) (now (group .entry)) (now (marks .exit)) (now (head .exit)) (now (next .exit)) (now (order .exit)) (now (group .exit)) r ⌝ }
 {
     let n = marks.len();
     let m = sources.len();

@@ -1,11 +1,12 @@
 -- What a search among ordered positions promises. Assumes nothing: these are definitions.
+use mathlib.Core.Bool.{Bool, true, false}
 use mathlib.Core.List.{List}
 use mathlib.Core.Path.{_≡_}
 use Prim.Native.Nat.{ℕ, _≤_, _<_}
 use lib.ListN.{length, getD}
 use Rattle.rules.specs.Ordered.{keyAt, ordered, positionOf}
 use Rattle.rules.specs.declared.positions.Found.{Found}
-use Rattle.rules.specs.declared.positions.Found.the-variants.{At}
+use Rattle.rules.specs.declared.positions.Found.the-variants.{At, Missing}
 
 -- the answer, whatever the row is, and where it is the ordered positions
 pub record Searched (keys order : List ℕ) (key : ℕ) (r : Found) : Type 0 where
@@ -26,3 +27,12 @@ pub record Searching (keys order : List ℕ) (key low high : ℕ) : Type 0 where
 -- the first place whose key is not below: nothing is left to be searched there
 abbrev pub FirstNotBelow : List ℕ → List ℕ → ℕ → ℕ → Type 0
 FirstNotBelow keys order key r = Searching keys order key r r
+
+-- the answer's numbers: whether there is a position, and which
+abbrev pub isFound : Found → Bool
+isFound (At p) = true
+isFound Missing = false
+
+abbrev pub foundPosition : Found → ℕ
+foundPosition (At p) = p
+foundPosition Missing = 0

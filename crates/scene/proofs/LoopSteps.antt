@@ -88,8 +88,8 @@ module _ (starts stops : List ℕ) (n : ℕ) (linked : Linked starts stops n) wh
       let e = subst T (ends-all n stops (inside-sinks n starts stops (sym (linked .pairs)) (linked .inside))) tt in
       search tests depth 9
 
-  pub marks-shared : (old new : List ℕ) → new ≡ cond fits (sharedMarks (edgesBetween starts stops) n) old → new ≡ sharedMarks (edgesBetween starts stops) n
-  marks-shared old new e = e ∙ chosen (sharedMarks (edgesBetween starts stops) n) old fits linked-fits
+  pub marks-shared : (old new : List ℕ) (r : Bool) → r ≡ fits → new ≡ cond r (sharedMarks (edgesBetween starts stops) n) old → new ≡ sharedMarks (edgesBetween starts stops) n
+  marks-shared old new r a e = e ∙ chosen (sharedMarks (edgesBetween starts stops) n) old r (subst T (sym a) linked-fits)
 
 -- one reason where something is listed
 pub one-reason : (ids : List ℕ) → 0 < length ids → 1 ≡ length (feedbackReason ids)

@@ -74,12 +74,12 @@ same-length-5 c = search needs
 returns : tie.Need-returns
 returns c =
     let fits = sym (c .before .before .before .before .before .before .before .before .before .before .before .before .before .before .before .before .before .before .before .before .before .before .graph-fits .ensures) ∙ c .before .before .before .before .before .before .before .before .before .before .before .before .before .before .before .before .before .before .before .before .before .if1 .taken in
-    (sym fits, (rw fits (c .before .before .mark-shared .ensures ∙ front-marks (c .before .before .before .before .before .before .before .before .before .before .before .before .before .before .before .strongly-connected-components .ensures) _), λ e. let z : _≡_ {A = ℕ} 0 1 = cc in absurd (omega arith)))
+    record { answer = sym fits; marked = c .before .before .mark-shared .ensures ∙ front-marks (c .before .before .before .before .before .before .before .before .before .before .before .before .before .before .before .strongly-connected-components .ensures) _; refused = λ e. let z : _≡_ {A = ℕ} 0 1 = cc in absurd (omega arith) }
 
 returns-2 : tie.Need-returns-2
 returns-2 c =
     let misfits = sym (c .before .graph-fits .ensures) ∙ c .if1 .left in
-    (sym misfits, (rw misfits refl, λ e. (refl, refl, refl, refl)))
+    record { answer = sym misfits; marked = refl; refused = λ e. (refl, refl, refl, refl) }
 
 pub mark-shared-components-spec : {M : Type 1} → statement M
 mark-shared-components-spec =
