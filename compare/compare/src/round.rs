@@ -1,0 +1,103 @@
+//! One round of random cases.
+use generator::damage::{
+    COMPONENT_COUNTS, CONNECTION_COUNTS, Fault, damage, every_fault, several_faults,
+};
+use generator::fill::filled;
+use generator::lists::SceneLists;
+use generator::rng::Rng;
+use generator::shapes::{SHAPES, Shape};
+
+use crate::rooms;
+use crate::run::{run, run_known};
+use crate::tally::Tally;
+
+/// Smallest and largest number of components, and how many scenes of each shape a round has.
+const SIZES: [(usize, usize, usize); 4] = [(1, 8, 40), (9, 64, 6), (65, 511, 1), (512, 512, 1)];
+
+/// The round depends on its seed alone.
+pub fn round(tally: &mut Tally, seed: u64) -> Result<(), String> {
+    let rng = &mut Rng::new(seed);
+    for shape in &SHAPES {
+        for (least, most, count) in SIZES {
+            for _ in 0..count {
+                let n = rng.between(least, most);
+                random(tally, rng, shape, n)?;
+            }
+        }
+    }
+    limits(tally, rng)?;
+    for fault in every_fault() {
+        for most in [8, 60] {
+            damaged(tally, rng, "one fault", most, &[fault])?;
+        }
+    }
+    for _ in 0..1000 {
+        let faults = several_faults(rng);
+        damaged(tally, rng, "several faults", 12, &faults)?;
+    }
+    for _ in 0..20 {
+        let faults = several_faults(rng);
+        damaged(tally, rng, "several faults, large", 512, &faults)?;
+    }
+    Ok(())
+}
+
+fn any_scene(rng: &mut Rng, n: usize) -> SceneLists {
+    let shape = &SHAPES[rng.below(SHAPES.len())];
+    scene(rng, shape, n)
+}
+
+fn scene(rng: &mut Rng, shape: &Shape, n: usize) -> SceneLists {
+    let sketch = shape.1(rng, n);
+    filled(rng, &sketch)
+}
+
+/// A random scene, and the same with its connections in another order: list 4 stays.
+fn random(tally: &mut Tally, rng: &mut Rng, shape: &Shape, n: usize) -> Result<(), String> {
+    let lists = scene(rng, shape, n);
+    let mut shuffled = lists.clone();
+    shuffle_connections(rng, &mut shuffled);
+    let ids = run(tally, shape.0, &rooms::enough(rng, lists))?;
+    let case = rooms::enough(rng, shuffled);
+    run_known(tally, "shuffled connections", &case, &ids)
+}
+
+fn shuffle_connections(rng: &mut Rng, lists: &mut SceneLists) {
+    let mut order: Vec<_> = (0..lists.sources.len()).collect();
+    rng.shuffle(&mut order);
+    lists.sources = order.iter().map(|i| lists.sources[*i]).collect();
+    lists.sinks = order.iter().map(|i| lists.sinks[*i]).collect();
+    lists.transfers = order.iter().map(|i| lists.transfers[*i]).collect();
+}
+
+/// The sizes at both limits, each with each.
+fn limits(tally: &mut Tally, rng: &mut Rng) -> Result<(), String> {
+    for n in COMPONENT_COUNTS {
+        for m in CONNECTION_COUNTS {
+            let most = rng.pick(&[60, 500]);
+            let sizes = [Fault::Components(n), Fault::Connections(m)];
+            damaged(tally, rng, "sizes at the limits", most, &sizes)?;
+        }
+    }
+    Ok(())
+}
+
+/// A scene of at most so many components with faults; where there are several, its room may be
+/// short too.
+fn damaged(
+    tally: &mut Tally,
+    rng: &mut Rng,
+    family: &'static str,
+    most: usize,
+    faults: &[Fault],
+) -> Result<(), String> {
+    let n = rng.between(1, most);
+    let mut lists = any_scene(rng, n);
+    damage(rng, &mut lists, faults);
+    let case = match faults.len() {
+        1 => rooms::enough(rng, lists),
+        _ => rooms::doubtful(rng, lists),
+    };
+    run(tally, family, &case)?;
+    Ok(())
+}
