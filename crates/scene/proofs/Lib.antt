@@ -6,5 +6,5 @@ pub mod ComponentSteps
 pub mod ConnectionSteps
 -- a scene that is accepted, and its Feedback:
 pub mod IndexSteps
-pub mod LoopSteps
-pub mod SceneLoops
+pub mod ListingSteps
+pub mod SceneFeedback

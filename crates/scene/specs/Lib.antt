@@ -4,4 +4,4 @@ pub mod Steps
 pub mod Ends
 -- a scene that is accepted, and its Feedback:
 pub mod Indexed
-pub mod Loops
+pub mod Listing

@@ -8,7 +8,7 @@ use lib.Seq.{length-take-le}
 use Rattle.rules.specs.Scene.{componentLists, connectionLists}
 use Rattle.rules.specs.Refusals.{sceneLimits, roomOutputs}
 use Rattle.rules.proofs.Acceptance.{accepted→}
-use Rattle.scene.proofs.SceneLoops.{accepted-linked, accepted-room, call-refused, call-listed}
+use Rattle.scene.proofs.SceneFeedback.{accepted-linked, accepted-room, call-refused, call-listed}
 use borrow.Author.Needs.{needs}
 use Rattle.scene.proofs.feedback.feedback_indexed.Statement.{statement}
 use Rattle.scene.proofs.feedback.feedback_indexed.Tie as tie

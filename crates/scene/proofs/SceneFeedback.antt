@@ -23,7 +23,7 @@ use Rattle.rules.proofs.Indices.{indices-below}
 use Rattle.rules.proofs.Acceptance.{AcceptedScene, accepted→}
 use Rattle.laws.proofs.PositionEdges.{feedback-by-position, mark-at}
 use Rattle.scene.specs.Indexed.{Positions}
-use Rattle.scene.specs.Loops.{loopIds, sharedIds, Linked}
+use Rattle.scene.specs.Listing.{listedIds, sharedIds, Linked}
 
 mark-set : (b : Bool) → not (eqb (cond b 1 0) 0) ≡ b
 mark-set true = refl
@@ -32,7 +32,7 @@ mark-set false = refl
 module _ (l : ComponentLists) (m : ConnectionLists) (starts stops : List ℕ) (distinct : Distinct (l .ids))
     (positioned : Positioned (l .ids) (edgesOf (connectionsOf m)) (edgesBetween starts stops)) where
   pub shared-feedback : sharedIds (l .ids) (l .kinds) starts stops ≡ feedback (componentsOf l) (edgesOf (connectionsOf m))
-  unfolding sharedIds loopIds rowOf componentAt
+  unfolding sharedIds listedIds rowOf componentAt
   shared-feedback =
       ap (map (λ i. getD (l .ids) i 0)) (keep-same _ _ (indices n) (λ i k. ap (λ b. not (passive (kindRow (getD (l .kinds) i 0) .node)) && b) (marked i (indices-below n k))))
       ∙ sym (feedback-by-position l distinct (edgesOf (connectionsOf m)) positions positioned)

@@ -13,12 +13,12 @@ use Rattle.rules.specs.Positions.{Inside}
 use Rattle.rules.specs.Refusals.{sceneLimits}
 
 -- the component is neither Wire nor Conductor, and has a mark
-abbrev pub onLoop : (kinds marks : List ℕ) → ℕ → Bool
-onLoop kinds marks i = not (passive (kindRow (getD kinds i 0) .node)) && not (eqb (getD marks i 0) 0)
+abbrev pub isListed : (kinds marks : List ℕ) → ℕ → Bool
+isListed kinds marks i = not (passive (kindRow (getD kinds i 0) .node)) && not (eqb (getD marks i 0) 0)
 
 -- the ids of such components among the first n
-unfoldable pub loopIds : (ids kinds marks : List ℕ) → ℕ → List ℕ
-loopIds ids kinds marks n = map (λ i. getD ids i 0) (keep (onLoop kinds marks) (indices n))
+unfoldable pub listedIds : (ids kinds marks : List ℕ) → ℕ → List ℕ
+listedIds ids kinds marks n = map (λ i. getD ids i 0) (keep (isListed kinds marks) (indices n))
 
 -- a kind for each component, and room for its mark and its id
 pub record Marked (ids kinds marks feedback : List ℕ) : Type 0 where
@@ -28,7 +28,7 @@ pub record Marked (ids kinds marks feedback : List ℕ) : Type 0 where
 
 -- the same with the marks of positions that share their strongly connected component with a different one
 unfoldable pub sharedIds : (ids kinds starts stops : List ℕ) → List ℕ
-sharedIds ids kinds starts stops = loopIds ids kinds (sharedMarks (edgesBetween starts stops) (length ids)) (length ids)
+sharedIds ids kinds starts stops = listedIds ids kinds (sharedMarks (edgesBetween starts stops) (length ids)) (length ids)
 
 -- edges between positions below n, within the limits of a scene
 pub record Linked (starts stops : List ℕ) (n : ℕ) : Type 0 where

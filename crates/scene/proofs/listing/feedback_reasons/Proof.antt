@@ -1,8 +1,8 @@
 -- Assumes nothing.
 use native.Mathlib.Omega.{arith}
-use Rattle.scene.proofs.LoopSteps.{one-reason, no-reason}
-use Rattle.scene.proofs.loops.feedback_reasons.Statement.{statement}
-use Rattle.scene.proofs.loops.feedback_reasons.Tie as tie
+use Rattle.scene.proofs.ListingSteps.{one-reason, no-reason}
+use Rattle.scene.proofs.listing.feedback_reasons.Statement.{statement}
+use Rattle.scene.proofs.listing.feedback_reasons.Tie as tie
 
 returns : tie.Need-returns
 returns c = λ ids e. one-reason ids (omega (arith, e, c .if1 .taken))

@@ -1,10 +1,10 @@
 -- Assumes nothing.
 use borrow.Author.Needs.{needs}
 use Rattle.rules.specs.declared.kinds.TemporalNodeKind.the-variants.{Source, Wire, Inverter, Delay, Comparator, Actuator, Conductor}
-use Rattle.scene.proofs.LoopSteps.{without-mark, by-node}
+use Rattle.scene.proofs.ListingSteps.{without-mark, by-node}
 use borrow.Author.Needs.{needs}
-use Rattle.scene.proofs.loops.on_loop.Statement.{statement}
-use Rattle.scene.proofs.loops.on_loop.Tie as tie
+use Rattle.scene.proofs.listing.is_listed.Statement.{statement}
+use Rattle.scene.proofs.listing.is_listed.Tie as tie
 
 returns : tie.Need-returns
 returns c = without-mark (c .before .args .kind) (c .before .args .mark) (c .if1 .taken)
@@ -54,8 +54,8 @@ returns-7 c = by-node (c .before .before .before .before .args .kind) (c .before
 returns-8 : tie.Need-returns-8
 returns-8 c = by-node (c .before .before .before .before .args .kind) (c .before .before .before .before .args .mark) Actuator (cc) (c .before .before .before .if1 .left)
 
-pub on-loop-spec : {M : Type 1} → statement M
-on-loop-spec =
+pub is-listed-spec : {M : Type 1} → statement M
+is-listed-spec =
     tie.close
     (tie.spec
     returns

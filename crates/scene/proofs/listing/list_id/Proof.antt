@@ -1,8 +1,8 @@
 -- Assumes nothing.
 use mathlib.Core.Path.{refl}
 use borrow.Author.Needs.{needs}
-use Rattle.scene.proofs.loops.list_id.Statement.{statement}
-use Rattle.scene.proofs.loops.list_id.Tie as tie
+use Rattle.scene.proofs.listing.list_id.Statement.{statement}
+use Rattle.scene.proofs.listing.list_id.Tie as tie
 
 mul-list : tie.Need-mul-list
 mul-list c = search needs

@@ -1,10 +1,10 @@
 -- Assumes nothing.
 use borrow.Author.Needs.{needs}
 use lib.ListN.{length}
-use Rattle.scene.proofs.LoopSteps.{marks-shared}
+use Rattle.scene.proofs.ListingSteps.{marks-shared}
 use borrow.Author.Needs.{needs}
-use Rattle.scene.proofs.loops.mark_positions.Statement.{statement}
-use Rattle.scene.proofs.loops.mark_positions.Tie as tie
+use Rattle.scene.proofs.listing.mark_positions.Statement.{statement}
+use Rattle.scene.proofs.listing.mark_positions.Tie as tie
 
 slice-aggregate-mark-shared-components : tie.Need-slice-aggregate-mark-shared-components
 slice-aggregate-mark-shared-components c = search needs

@@ -4,11 +4,11 @@ use borrow.Author.Needs.{needs}
 use lib.ListN.{length}
 use lib.Seq.{length-take-le}
 use Rattle.rules.specs.Graph.{edgesBetween, sharedMarks}
-use Rattle.scene.specs.Loops.{Linked}
-use Rattle.scene.proofs.LoopSteps.{written-front, front-room, shared-listed}
+use Rattle.scene.specs.Listing.{Linked}
+use Rattle.scene.proofs.ListingSteps.{written-front, front-room, shared-listed}
 use borrow.Author.Needs.{needs}
-use Rattle.scene.proofs.loops.list_shared.Statement.{statement}
-use Rattle.scene.proofs.loops.list_shared.Tie as tie
+use Rattle.scene.proofs.listing.list_shared.Statement.{statement}
+use Rattle.scene.proofs.listing.list_shared.Tie as tie
 
 slice-relend-prefix-mark-positions : tie.Need-slice-relend-prefix-mark-positions
 slice-relend-prefix-mark-positions c = search needs

@@ -19,7 +19,7 @@ use Rattle.rules.proofs.Written.{written-none, written-more}
 use Rattle.graph.specs.Fits.{graphFits}
 use Rattle.graph.proofs.Fitting.{ends-all}
 use Rattle.laws.proofs.PositionEdges.{inside-sources, inside-sinks}
-use Rattle.scene.specs.Loops.{onLoop, loopIds, sharedIds, Linked}
+use Rattle.scene.specs.Listing.{isListed, listedIds, sharedIds, Linked}
 
 and-false : (a : Bool) → (a && false) ≡ false
 and-false true = refl
@@ -41,35 +41,35 @@ module _ (kind mark : ℕ) where
 
 module _ (ids kinds marks old : List ℕ) where
   -- the list and its count once the components before i are gone through
-  pub record LoopsBelow (i : ℕ) (feedback : List ℕ) (count : ℕ) : Type 0 where
-    pub content : feedback ≡ written old (loopIds ids kinds marks i)
-    pub counted : count ≡ length (loopIds ids kinds marks i)
+  pub record ListedBelow (i : ℕ) (feedback : List ℕ) (count : ℕ) : Type 0 where
+    pub content : feedback ≡ written old (listedIds ids kinds marks i)
+    pub counted : count ≡ length (listedIds ids kinds marks i)
     pub few : count ≤ i
 
-  pub loops-start : LoopsBelow 0 old 0
-  unfolding loopIds indices from keep
-  loops-start = record { content = sym (written-none old); counted = refl; few = omega arith }
+  pub listed-start : ListedBelow 0 old 0
+  unfolding listedIds indices from keep
+  listed-start = record { content = sym (written-none old); counted = refl; few = omega arith }
 
-  loop-ids-more : (i : ℕ) → loopIds ids kinds marks (i + 1) ≡ loopIds ids kinds marks i ++ cond (onLoop kinds marks i) (getD ids i 0 ∷ []) []
-  unfolding loopIds keep
-  loop-ids-more i =
-      ap (λ l. map (λ k. getD ids k 0) (keep (onLoop kinds marks) l)) (indices-more i) ∙ ap (map (λ k. getD ids k 0)) (keep-append (onLoop kinds marks) (indices i) (i ∷ []))
-      ∙ map-append (λ k. getD ids k 0) (keep (onLoop kinds marks) (indices i)) _ ∙ ap (λ l. map (λ k. getD ids k 0) (keep (onLoop kinds marks) (indices i)) ++ l) (one (onLoop kinds marks i))
+  listed-ids-more : (i : ℕ) → listedIds ids kinds marks (i + 1) ≡ listedIds ids kinds marks i ++ cond (isListed kinds marks i) (getD ids i 0 ∷ []) []
+  unfolding listedIds keep
+  listed-ids-more i =
+      ap (λ l. map (λ k. getD ids k 0) (keep (isListed kinds marks) l)) (indices-more i) ∙ ap (map (λ k. getD ids k 0)) (keep-append (isListed kinds marks) (indices i) (i ∷ []))
+      ∙ map-append (λ k. getD ids k 0) (keep (isListed kinds marks) (indices i)) _ ∙ ap (λ l. map (λ k. getD ids k 0) (keep (isListed kinds marks) (indices i)) ++ l) (one (isListed kinds marks i))
     where
       one : (b : Bool) → map (λ k. getD ids k 0) (cond b (i ∷ []) []) ≡ cond b (getD ids i 0 ∷ []) []
       one true = refl
       one false = refl
 
-  pub loops-more : (i count : ℕ) (feedback : List ℕ) (b : Bool) → b ≡ onLoop kinds marks i → i < length old → LoopsBelow i feedback count
-      → LoopsBelow (i + 1) (cond b (set feedback count (getD ids i 0)) feedback) (cond b (count + 1) count)
-  loops-more i count feedback true e h r = record {
-    content = rw (loop-ids-more i, ← e, r .content, r .counted) (sym (written-more old (loopIds ids kinds marks i) (getD ids i 0) (omega (arith, r .counted, r .few))));
-    counted = rw (loop-ids-more i, ← e) (omega (arith, r .counted, length-append (loopIds ids kinds marks i) (getD ids i 0 ∷ [])));
+  pub listed-more : (i count : ℕ) (feedback : List ℕ) (b : Bool) → b ≡ isListed kinds marks i → i < length old → ListedBelow i feedback count
+      → ListedBelow (i + 1) (cond b (set feedback count (getD ids i 0)) feedback) (cond b (count + 1) count)
+  listed-more i count feedback true e h r = record {
+    content = rw (listed-ids-more i, ← e, r .content, r .counted) (sym (written-more old (listedIds ids kinds marks i) (getD ids i 0) (omega (arith, r .counted, r .few))));
+    counted = rw (listed-ids-more i, ← e) (omega (arith, r .counted, length-append (listedIds ids kinds marks i) (getD ids i 0 ∷ [])));
     few = omega (arith, r .few);
   }
-  loops-more i count feedback false e h r = record {
-    content = rw (loop-ids-more i, ← e, append-nil) (r .content);
-    counted = rw (loop-ids-more i, ← e, append-nil) (r .counted);
+  listed-more i count feedback false e h r = record {
+    content = rw (listed-ids-more i, ← e, append-nil) (r .content);
+    counted = rw (listed-ids-more i, ← e, append-nil) (r .counted);
     few = omega (arith, r .few);
   }
 
@@ -107,10 +107,10 @@ pub written-front : (n : ℕ) (new rest marks : List ℕ) → length new ≡ n �
 written-front n new rest marks e q = take-at new rest n e ∙ q
 
 pub shared-listed : (ids kinds starts stops marks feedback old : List ℕ) (r : ℕ) → marks ≡ sharedMarks (edgesBetween starts stops) (length ids)
-    → (feedback ≡ written old (loopIds ids kinds marks (length ids))) × (r ≡ length (loopIds ids kinds marks (length ids)))
+    → (feedback ≡ written old (listedIds ids kinds marks (length ids))) × (r ≡ length (listedIds ids kinds marks (length ids)))
     → (feedback ≡ written old (sharedIds ids kinds starts stops)) × (r ≡ length (sharedIds ids kinds starts stops))
 unfolding sharedIds
-shared-listed ids kinds starts stops marks feedback old r e p = subst (λ m. (feedback ≡ written old (loopIds ids kinds m (length ids))) × (r ≡ length (loopIds ids kinds m (length ids)))) e p
+shared-listed ids kinds starts stops marks feedback old r e p = subst (λ m. (feedback ≡ written old (listedIds ids kinds m (length ids))) × (r ≡ length (listedIds ids kinds m (length ids)))) e p
 
 pub front-room : (n : ℕ) (new rest : List ℕ) → length new ≡ n → n ≤ length (take n (new ++ rest))
 front-room n new rest e = omega (arith, ap length (take-at new rest n e))

@@ -1,4 +1,4 @@
-// The components on a loop, from the edges over positions: list 4, and how many Feedback reasons there are.
+// The components of list 4, from the edges over positions, and how many Feedback reasons there are.
 ghost use mathlib.Core.Path.{_≡_};
 ghost use mathlib.Core.Bool.{cond, not, _&&_};
 ghost use mathlib.Core.List.{List};
@@ -9,7 +9,7 @@ ghost use Rattle.rules.specs.Kinds.{kindRow};
 ghost use Rattle.rules.specs.Lists.{written};
 ghost use Rattle.rules.specs.Graph.{edgesBetween, sharedMarks};
 ghost use Rattle.rules.specs.Reasons.{passive, feedbackReason};
-ghost use Rattle.scene.specs.Loops.{Linked, Marked, loopIds, sharedIds};
+ghost use Rattle.scene.specs.Listing.{Linked, Marked, listedIds, sharedIds};
 use graph::mark_shared_components;
 use rules::kinds::TemporalNodeKind;
 use rules::limits::MAX_COMPONENTS;
@@ -37,7 +37,7 @@ fn mark_positions(starts: &[usize], stops: &[usize], marks: &mut [u8])
 }
 
 // Whether a component of this kind is neither Wire nor Conductor and its mark is set.
-fn on_loop(kind: u8, mark: u8) -> bool
+fn is_listed(kind: u8, mark: u8) -> bool
     ensures { λ r. ⌜ r ≡ (not (passive (kindRow kind .node)) && not (eqb mark 0)) ⌝ }
 {
     if mark == 0 {
@@ -73,13 +73,13 @@ fn list_id(list: &mut [u64], count: usize, id: u64, listed: bool) -> usize
 // Lists, in component order, the ids of the components that are neither Wire nor Conductor and have a mark.
 fn list_marked(ids: &[u64], kinds: &[u8], marks: &[u8], feedback_ids: &mut [u64]) -> usize
     requires { ⌜ Marked (now ids) (now kinds) (now marks) (now «feedback_ids») ⌝ }
-    ensures ids { λ _. ⌜ now («feedback_ids» .exit) ≡ written (now («feedback_ids» .entry)) (loopIds (now (ids .entry)) (now (kinds .entry)) (now (marks .entry)) (length (now (ids .entry)))) ⌝ }
-    ensures counted { λ r. ⌜ r ≡ length (loopIds (now (ids .entry)) (now (kinds .entry)) (now (marks .entry)) (length (now (ids .entry)))) ⌝ }
+    ensures ids { λ _. ⌜ now («feedback_ids» .exit) ≡ written (now («feedback_ids» .entry)) (listedIds (now (ids .entry)) (now (kinds .entry)) (now (marks .entry)) (length (now (ids .entry)))) ⌝ }
+    ensures counted { λ r. ⌜ r ≡ length (listedIds (now (ids .entry)) (now (kinds .entry)) (now (marks .entry)) (length (now (ids .entry)))) ⌝ }
 {
     let mut count = 0;
     let mut i = 0;
     while i < ids.len() {
-        let listed = on_loop(kinds[i], marks[i]);
+        let listed = is_listed(kinds[i], marks[i]);
         count = list_id(feedback_ids, count, ids[i], listed);
         i += 1;
     }
