@@ -3,3 +3,5 @@ pub mod Merging
 pub mod Halves
 pub mod Whole
 pub mod Searching
+-- what the contracts give a caller:
+pub mod Promises
