@@ -14,3 +14,5 @@ pub mod Kosaraju
 pub mod Sweep
 pub mod SharedMarks
 pub mod Fitting
+-- what the contract gives a caller:
+pub mod Promises
