@@ -72,7 +72,7 @@ shortest [] = 0
 shortest (n ∷ []) = n
 shortest (n ∷ m ∷ ns) = min n (shortest (m ∷ ns))
 
--- the same where one length of each list is known, its shortest: proofs/Shortest shows that this is enough
+-- the output lists of a call of which the shortest length of each is known: proofs/Shortest shows that this is enough
 abbrev pub roomOutputs : (n m list : ℕ) → List ℕ → List Output
 roomOutputs n m k room = outputsFrom k n m (map (λ x. x ∷ []) room)
 
