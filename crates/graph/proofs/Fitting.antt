@@ -4,14 +4,14 @@ use mathlib.Core.List.{List}
 use mathlib.Core.Path.{_≡_, refl, sym, subst}
 use Prim.Native.Nat.{ℕ, _<_, _≤_}
 use native.Mathlib.Omega.{arith}
-use borrow.Author.Tests.{eqb-true, leb-true}
+use borrow.Author.Tests.{eq-eqb, ne-eqb, eqb-true, leb-true}
 use lib.Dec.{T, leb, leb→le, le→leb, nleb→lt, eqb}
 use lib.ListN.{length, getD}
 use Rattle.rules.specs.Lists.{any}
 use Rattle.rules.proofs.Lists.{any-in, any-out}
 use Rattle.rules.proofs.Indices.{at-mem, mem-at}
-use Rattle.graph.specs.Fits.{endsBelow, graphFits}
-use Rattle.graph.specs.Adjacency.{Below}
+use Rattle.graph.specs.Fits.{endsBelow, graphFits, indexFits, EdgesIndexed}
+use Rattle.graph.specs.Adjacency.{Below, Indexed}
 use Rattle.graph.specs.Groups.{Between}
 
 -- the ends that were tested are below n, and these are all
@@ -70,3 +70,17 @@ fitted sources sinks n head next order group e =
       places = leb-true _ _ (c .1);
       groups = leb-true _ _ (d .1);
     }
+
+-- edges are linked only where the lists fit
+module _ (ends head next : List ℕ) where
+  pub index-misfit : (length next ≡ length ends → ⊥) → EdgesIndexed ends head next head next false
+  unfolding indexFits
+  index-misfit h = record { answer = simp (ne-eqb _ _ h); indexed = λ e. absurd (let z : _≡_ {A = ℕ} 0 1 = cc in omega arith); refused = λ e. (refl, refl) }
+
+  pub index-outside : length next ≡ length ends → false ≡ endsBelow (length head) ends → EdgesIndexed ends head next head next false
+  unfolding indexFits
+  index-outside h e = record { answer = simp (eq-eqb _ _ h) e; indexed = λ q. absurd (let z : _≡_ {A = ℕ} 0 1 = cc in omega arith); refused = λ q. (refl, refl) }
+
+  pub index-done : length next ≡ length ends → true ≡ endsBelow (length head) ends → (head′ next′ : List ℕ) → Indexed ends head′ next′ → EdgesIndexed ends head next head′ next′ true
+  unfolding indexFits
+  index-done h e head′ next′ i = record { answer = simp (eq-eqb _ _ h) e; indexed = λ q. i; refused = λ q. absurd (let z : _≡_ {A = ℕ} 0 1 = cc in omega arith) }

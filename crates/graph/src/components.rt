@@ -3,7 +3,7 @@ ghost use mathlib.Core.Path.{_≡_};
 ghost use lib.ListN.{length, replicate};
 ghost use Rattle.rules.specs.Graph.{edgesBetween};
 ghost use Rattle.graph.specs.Groups.{Lent, Grouped, Rooted, groupMarks};
-use crate::adjacency::index_edges;
+use crate::adjacency::index_within;
 use crate::collect::collect;
 use crate::visit_order::visit_order;
 
@@ -21,10 +21,10 @@ pub(crate) fn strongly_connected_components(
     requires { ⌜ Lent (now sources) (now sinks) (now marks) (now head) (now next) (now order) (now group) ⌝ }
     ensures { λ _. ⌜ Grouped (edgesBetween (now (sources .entry)) (now (sinks .entry))) (length (now (marks .entry))) (now (group .exit)) ⌝ }
 {
-    index_edges(sources, head, next);
+    index_within(sources, head, next);
     clear(marks);
     let mut i = visit_order(head, next, sinks, marks, order);
-    index_edges(sinks, head, next);
+    index_within(sinks, head, next);
     clear(marks);
     while 0 < i {
         i -= 1;

@@ -1,11 +1,12 @@
 // Strongly connected components of a graph whose nodes are the numbers below n.
 ghost use mathlib.Core.Path.{_≡_};
-ghost use Rattle.graph.specs.Fits.{SharedMarked, endsBelow, graphFits};
+ghost use Rattle.graph.specs.Fits.{SharedMarked, graphFits};
+use crate::adjacency::ends_below;
 use crate::components::mark_shared;
 use crate::components::strongly_connected_components;
 
 pub mod exports; // exports.rt: the calls for C
-mod adjacency; // adjacency.rt: edges linked by the node that they leave
+pub mod adjacency; // adjacency.rt: edges linked by the node that they leave
 mod visit_order; // visit_order.rt: depth-first visits, and the order in which they leave the nodes
 mod collect; // collect.rt: what a node reaches through nodes not seen yet
 mod components; // components.rt: a group for each strongly connected component, and marks from the groups
@@ -85,18 +86,4 @@ fn graph_fits(
     } else {
         false
     }
-}
-
-// Whether each end is one of the nodes below n.
-fn ends_below(ends: &[usize], n: usize) -> bool
-    ensures { λ r. ⌜ r ≡ endsBelow n (now (ends .entry)) ⌝ }
-{
-    let mut e = 0;
-    while e < ends.len() {
-        if n <= ends[e] {
-            return false;
-        }
-        e += 1;
-    }
-    true
 }

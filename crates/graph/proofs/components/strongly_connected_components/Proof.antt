@@ -17,8 +17,8 @@ Inv-loop sources sinks marks₀ head next order group₀ i₀ marks group i = Sw
 abbrev μ-loop : tie.MeasureT-loop
 μ-loop sources sinks marks₀ head next order group₀ i₀ marks group i = i
 
-index-edges-requires : tie.Need-index-edges-requires Inv-loop μ-loop
-index-edges-requires c κs = let p = c .before .before .before .before .before .before .before .before .before .pre in (p .links, λ k h. rw (p .heads) (p .edges .low k h))
+index-within-requires : tie.Need-index-within-requires Inv-loop μ-loop
+index-within-requires c κs = let p = c .before .before .before .before .before .before .before .before .before .pre in (p .links, λ k h. rw (p .heads) (p .edges .low k h))
 
 clear-requires : tie.Need-clear-requires Inv-loop μ-loop
 clear-requires c κs = search needs
@@ -26,17 +26,17 @@ clear-requires c κs = search needs
 visit-order-requires : tie.Need-visit-order-requires Inv-loop μ-loop
 visit-order-requires c κs =
     let p = c .before .before .before .before .before .before .before .before .before .before .before .before .before .before .before .before .before .before .before .before .before .before .pre in
-    let i = c .before .before .before .before .before .before .before .before .before .before .before .before .index-edges in
+    let i = c .before .before .before .before .before .before .before .before .before .before .before .before .index-within in
     let k = c .before .before .before .before .before .before .clear in
     record {
       linked = linked-of (c .before .before .before .before .before .before .before .before .before .before .before .before .before .before .before .before .before .before .before .before .before .before .args .sinks .now) (k .last .0) (p .edges .high) (p .edges .pairs) (i .kept .1 .0 ∙ p .heads) (i .ensures) (k .kept .0);
       room = omega (arith, unseen-most (k .last .0), k .kept .0, p .places);
     }
 
-index-edges-requires-2 : tie.Need-index-edges-requires-2 Inv-loop μ-loop
-index-edges-requires-2 c κs =
+index-within-requires-2 : tie.Need-index-within-requires-2 Inv-loop μ-loop
+index-within-requires-2 c κs =
     let p = c .before .before .before .before .before .before .before .before .before .before .before .before .before .before .before .before .before .before .before .before .before .before .before .before .before .before .before .before .before .pre in
-    let i = c .before .before .before .before .before .before .before .before .before .before .before .before .before .before .before .before .before .before .before .index-edges in
+    let i = c .before .before .before .before .before .before .before .before .before .before .before .before .before .before .before .before .before .before .before .index-within in
     (i .kept .1 .1 .0 ∙ p .links ∙ sym (p .edges .pairs), λ k h. rw (i .kept .1 .0 ∙ p .heads) (p .edges .high k h))
 
 clear-requires-2 : tie.Need-clear-requires-2 Inv-loop μ-loop
@@ -46,10 +46,10 @@ loop-holds : tie.Need-loop-holds Inv-loop μ-loop
 loop-holds c =
     let a = c .before .before .before .before .before .before .before .before .before .before .before .before .before .before .before .before .before .before .before .before .before .before .before .before .before .before .before .before .before .before .before .before .before .before .before .before .before .before .args in
     let p = c .before .before .before .before .before .before .before .before .before .before .before .before .before .before .before .before .before .before .before .before .before .before .before .before .before .before .before .before .before .before .before .before .before .before .before .before .before .before .pre in
-    let i = c .before .before .before .before .before .before .before .before .before .before .before .before .before .before .before .before .before .before .before .before .before .before .before .before .before .before .before .before .index-edges in
+    let i = c .before .before .before .before .before .before .before .before .before .before .before .before .before .before .before .before .before .before .before .before .before .before .before .before .before .before .before .before .index-within in
     let k = c .before .before .before .before .before .before .before .before .before .before .before .before .before .before .before .before .before .before .before .before .before .before .clear in
     let v = c .before .before .before .before .before .before .before .before .before .before .before .before .before .before .before .visit-order in
-    let i2 = c .before .before .before .before .before .before .before .before .index-edges2 in
+    let i2 = c .before .before .before .before .before .before .before .before .index-within2 in
     let k2 = c .before .before .clear2 in
     let same = i2 .kept .1 .0 ∙ i .kept .1 .0 ∙ p .heads in
     sweep-start (a .sources .now) (a .sinks .now) (i .last .1 .0) (i .last .1 .1 .0) (i2 .last .1 .0) (i2 .last .1 .1 .0) (subst (Between (a .sources .now) (a .sinks .now)) (sym same) (p .edges)) (sym (i2 .kept .1 .0)) (i .ensures) (i2 .ensures)
@@ -85,7 +85,7 @@ loop-again-2 c = sweep-old (c .before .before .before .before .loop .i) (c .befo
 
 same-length : tie.Need-same-length Inv-loop μ-loop
 same-length c =
-    let same = c .before .before .before .before .before .before .before .before .before .before .index-edges2 .kept .1 .0 ∙ c .before .before .before .before .before .before .before .before .before .before .before .before .before .before .before .before .before .before .before .before .before .before .before .before .before .before .before .before .before .before .index-edges .kept .1 .0 ∙ c .before .before .before .before .before .before .before .before .before .before .before .before .before .before .before .before .before .before .before .before .before .before .before .before .before .before .before .before .before .before .before .before .before .before .before .before .before .before .before .before .pre .heads in
+    let same = c .before .before .before .before .before .before .before .before .before .before .index-within2 .kept .1 .0 ∙ c .before .before .before .before .before .before .before .before .before .before .before .before .before .before .before .before .before .before .before .before .before .before .before .before .before .before .before .before .before .before .index-within .kept .1 .0 ∙ c .before .before .before .before .before .before .before .before .before .before .before .before .before .before .before .before .before .before .before .before .before .before .before .before .before .before .before .before .before .before .before .before .before .before .before .before .before .before .before .before .pre .heads in
     c .before .loop .inv .marks ∙ same
 
 same-length-2 : tie.Need-same-length-2 Inv-loop μ-loop
@@ -99,14 +99,14 @@ same-length-4 c = search needs
 
 same-length-5 : tie.Need-same-length-5 Inv-loop μ-loop
 same-length-5 c =
-    let same = c .before .before .before .before .before .before .before .before .before .before .index-edges2 .kept .1 .0 ∙ c .before .before .before .before .before .before .before .before .before .before .before .before .before .before .before .before .before .before .before .before .before .before .before .before .before .before .before .before .before .before .index-edges .kept .1 .0 ∙ c .before .before .before .before .before .before .before .before .before .before .before .before .before .before .before .before .before .before .before .before .before .before .before .before .before .before .before .before .before .before .before .before .before .before .before .before .before .before .before .before .pre .heads in
+    let same = c .before .before .before .before .before .before .before .before .before .before .index-within2 .kept .1 .0 ∙ c .before .before .before .before .before .before .before .before .before .before .before .before .before .before .before .before .before .before .before .before .before .before .before .before .before .before .before .before .before .before .index-within .kept .1 .0 ∙ c .before .before .before .before .before .before .before .before .before .before .before .before .before .before .before .before .before .before .before .before .before .before .before .before .before .before .before .before .before .before .before .before .before .before .before .before .before .before .before .before .pre .heads in
     c .before .loop .inv .groups ∙ same ∙ sym (c .before .before .before .before .before .before .before .before .before .before .before .before .before .before .before .before .before .before .before .before .before .before .before .before .before .before .before .before .before .before .before .before .before .before .before .before .before .before .before .before .pre .groups)
 
 returns : tie.Need-returns Inv-loop μ-loop
 returns c =
     let a = c .before .before .before .before .before .before .before .before .before .before .before .before .before .before .before .before .before .before .before .before .before .before .before .before .before .before .before .before .before .before .before .before .before .before .before .before .before .before .before .before .args in
     let l = c .before .loop in
-    let same = c .before .before .before .before .before .before .before .before .before .before .index-edges2 .kept .1 .0 ∙ c .before .before .before .before .before .before .before .before .before .before .before .before .before .before .before .before .before .before .before .before .before .before .before .before .before .before .before .before .before .before .index-edges .kept .1 .0 ∙ c .before .before .before .before .before .before .before .before .before .before .before .before .before .before .before .before .before .before .before .before .before .before .before .before .before .before .before .before .before .before .before .before .before .before .before .before .before .before .before .before .pre .heads in
+    let same = c .before .before .before .before .before .before .before .before .before .before .index-within2 .kept .1 .0 ∙ c .before .before .before .before .before .before .before .before .before .before .before .before .before .before .before .before .before .before .before .before .before .before .before .before .before .before .before .before .before .before .index-within .kept .1 .0 ∙ c .before .before .before .before .before .before .before .before .before .before .before .before .before .before .before .before .before .before .before .before .before .before .before .before .before .before .before .before .before .before .before .before .before .before .before .before .before .before .before .before .pre .heads in
     subst (λ k. Grouped (edgesBetween (a .sources .now) (a .sinks .now)) k (l .group)) same (sweep-end (l .i) (l .inv) (omega (arith, c .loop-test .left)))
 
 pub strongly-connected-components-spec : {M : Type 1} → statement M
@@ -115,10 +115,10 @@ strongly-connected-components-spec =
     (tie.spec
     Inv-loop
     μ-loop
-    index-edges-requires
+    index-within-requires
     clear-requires
     visit-order-requires
-    index-edges-requires-2
+    index-within-requires-2
     clear-requires-2
     loop-holds
     sub-i

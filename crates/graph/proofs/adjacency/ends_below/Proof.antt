@@ -5,8 +5,8 @@ use borrow.Author.Count.{below-more}
 use borrow.Author.Needs.{needs}
 use lib.ListN.{length, getD}
 use Rattle.graph.proofs.Fitting.{ends-all, ends-one}
-use Rattle.graph.proofs.ends_below.Statement.{statement}
-use Rattle.graph.proofs.ends_below.Tie as tie
+use Rattle.graph.proofs.adjacency.ends_below.Statement.{statement}
+use Rattle.graph.proofs.adjacency.ends_below.Tie as tie
 
 abbrev Inv-loop : tie.InvT-loop
 Inv-loop ends n e₀ e = (e ≤ length ends) × ((k : ℕ) → k < e → getD ends k 0 < n)
