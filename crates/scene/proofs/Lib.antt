@@ -6,5 +6,6 @@ pub mod ComponentSteps
 pub mod ConnectionSteps
 -- a scene that is accepted, and its Feedback:
 pub mod IndexSteps
+pub mod PositionSteps
 pub mod ListingSteps
 pub mod SceneFeedback

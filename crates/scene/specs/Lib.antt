@@ -4,4 +4,5 @@ pub mod Steps
 pub mod Ends
 -- a scene that is accepted, and its Feedback:
 pub mod Indexed
+pub mod ScenePositions
 pub mod Listing
