@@ -1,4 +1,12 @@
--- Demand 3: what the order of the connections does not change, and what an unequal-delay reason says
+-- Demand 3, for what the lists hold after the calls: what the order of the connections does not change, what an unequal-delay reason says,
+-- and that a refusal changes nothing
+pub mod CallReordering
+pub mod CallReasons
+pub mod CallRefusals
+pub mod DescribeReordering
+-- what the entries in use of an accepted call are
+pub mod CallEntries
+-- demand 3, for what the rules define
 pub mod Reordering
 pub mod UnequalReasons
 pub mod BaseScenes

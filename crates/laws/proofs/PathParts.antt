@@ -45,7 +45,7 @@ module _ (paths starts lengths : List ℕ) (k : ℕ) where
 abbrev pathOf : ProjectedEdge → List ℕ
 pathOf p = p .path
 
-starts-length : (at : ℕ) (ps : List ProjectedEdge) → length (startsFrom at ps) ≡ length ps
+pub starts-length : (at : ℕ) (ps : List ProjectedEdge) → length (startsFrom at ps) ≡ length ps
 unfolding startsFrom
 starts-length at [] = refl
 starts-length at (p ∷ ps) = ap suc (starts-length (at + length (p .path)) ps)

@@ -1,4 +1,5 @@
--- Demand 3, first half: what the order of the connections does not change. Assumes nothing.
+-- Demand 3, first half: what the order of the connections does not change in what the rules define. CallReordering has it for what the
+-- lists hold after two calls. Assumes nothing.
 use mathlib.Core.Bool.{Bool}
 use mathlib.Core.List.{List, map, List·Permᴰ, Permᴰ·append-right}
 use mathlib.Core.Path.{_≡_, refl, sym, _∙_}
@@ -22,7 +23,6 @@ use Rattle.rules.proofs.Columns.{ConnectionsAligned, connections-length}
 use Rattle.rules.proofs.Acceptance.{acceptance-order, edges-order}
 use Rattle.laws.proofs.Order.{feedback-order, reasons-order, scope-order, pattern-order, labels-order}
 use Rattle.laws.proofs.Projection.{compressed-order, marks-order, projected-order, projected-length-order, path-ids-length-order}
-use Rattle.laws.proofs.StoredEdges.{EdgeLists, storedEdges, stored-back}
 
 -- "two accepted scenes that list the same components in the same order, and the same connections, each equally often, in any order"
 pub record Reordered (s t : Scene) : Type 0 where
@@ -30,15 +30,14 @@ pub record Reordered (s t : Scene) : Type 0 where
   pub same-connections : (n : Connection) → count (sameConnection n) (s .connections) ≡ count (sameConnection n) (t .connections)
 
 -- "the same labels, the same reasons in the same order, the same retained and compressed components, and each projected edge with its path's
--- ids, wherever these are stored, equally often"; scope, pattern and every count are in the assessment
+-- ids .. equally often"; scope, pattern and every count are in the assessment
 pub record SameAnswers (s t : Scene) : Type 0 where
   pub same-labels : labels (s .components) (edges s) ≡ labels (t .components) (edges t)
   pub same-reasons : reasons (s .components) (edges s) ≡ reasons (t .components) (edges t)
   pub same-feedback : feedback (s .components) (edges s) ≡ feedback (t .components) (edges t)
   pub same-marks : marks (s .components) (edges s) ≡ marks (t .components) (edges t)
   pub same-assessment : assessment (s .components) (edges s) ≡ assessment (t .components) (edges t)
-  pub same-projected : (old new : EdgeLists) (test : ProjectedEdge → Bool)
-      → count test (storedEdges old (projected (s .components) (edges s))) ≡ count test (storedEdges new (projected (t .components) (edges t)))
+  pub same-projected : (test : ProjectedEdge → Bool) → count test (projected (s .components) (edges s)) ≡ count test (projected (t .components) (edges t))
 
 -- lists 0, 1 and 2: as many entries, each equally often
 pub record SameDescription (s t : Scene) : Type 0 where
@@ -70,9 +69,6 @@ module _ (cs : List Component) {es fs : List Edge} (p : List·Permᴰ es fs) whe
   assessment-order =
       rw (scope-order p cs, pattern-order p cs, reasons-order p cs, feedback-order p cs, compressed-order p cs, projected-length-order p cs, path-ids-length-order p cs)
 
-  stored-order : (old new : EdgeLists) (test : ProjectedEdge → Bool) → count test (storedEdges old (projected cs es)) ≡ count test (storedEdges new (projected cs fs))
-  stored-order old new test = rw (stored-back old (projected cs es), stored-back new (projected cs fs)) (perm-count test (projected-order p cs))
-
 module _ (cs : List Component) {ns ms : List Connection} (p : List·Permᴰ ns ms) where
   timed-order : List·Permᴰ (timedEdges cs ns) (timedEdges cs ms)
   unfolding timedEdges
@@ -99,7 +95,7 @@ module _ (s t : Scene) (r : Reordered s t) where
         same-feedback = feedback-order (edges-order perm) cs;
         same-marks = marks-order (edges-order perm) cs;
         same-assessment = assessment-order cs (edges-order perm);
-        same-projected = stored-order cs (edges-order perm);
+        same-projected = λ test. perm-count test (projected-order (edges-order perm) cs);
       }
 
   pub same-description : SameDescription s t

@@ -7,5 +7,6 @@ pub mod ConnectionSteps
 -- a scene that is accepted, and its Feedback:
 pub mod IndexSteps
 pub mod PositionSteps
+pub mod LengthSteps
 pub mod ListingSteps
 pub mod SceneFeedback

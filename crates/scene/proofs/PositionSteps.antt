@@ -1,14 +1,14 @@
 -- Lists lent for the positions of a scene: with room and without. Assumes nothing.
 use mathlib.Core.Bool.{Bool, true, false, _&&_}
 use mathlib.Core.List.{List}
-use mathlib.Core.Path.{_≡_, refl, sym, _∙_}
+use mathlib.Core.Path.{_≡_, refl}
 use Prim.Native.Nat.{ℕ, _<_, _≤_}
 use native.Mathlib.Omega.{arith}
 use lib.Dec.{leb}
 use lib.ListN.{length}
 use borrow.Author.Tests.{le-leb, lt-leb, leb-true}
 use Rattle.rules.specs.Scene.{ComponentLists, ConnectionLists}
-use Rattle.rules.specs.Refusals.{Output, SceneLimits, sceneLimits}
+use Rattle.rules.specs.Refusals.{Output, sceneLimits}
 use Rattle.rules.specs.declared.answers.Checked.{Checked}
 use Rattle.rules.specs.declared.answers.Checked.the-variants.{Refused}
 use Rattle.scene.specs.Indexed.{IndexRoom, Indexed}

@@ -1,6 +1,5 @@
 // The positions of an accepted scene, for the calls that are made over them.
 ghost use mathlib.Core.Path.{_≡_};
-ghost use Prim.Native.Nat.{ℕ};
 ghost use lib.ListN.{length};
 ghost use Rattle.rules.specs.Scene.{componentLists, connectionLists};
 ghost use Rattle.rules.specs.Refusals.{sceneLimits, roomOutputs};

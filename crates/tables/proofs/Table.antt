@@ -1,14 +1,19 @@
 -- The kind table as the code reads it. Assumes nothing.
 use mathlib.Core.List.{List, [], _∷_}
+use mathlib.Core.Bool.{true, false}
 use mathlib.Core.Path.{_≡_, refl, sym, ap, _∙_}
 use Prim.Native.Nat.{ℕ, zero, suc, _<_, _≤_}
 use native.Mathlib.Omega.{arith}
 use borrow.Author.Tests.{lt-ltb, le-ltb}
 use lib.ListN.{length, getD, List·getD-eq-default}
-use Rattle.rules.specs.Kinds.{kindTable, kindRow, conductor, delayBy, componentDelay, edgeTiming}
+use Rattle.rules.specs.Kinds.{kindTable, kindRow, conductor, delayBy, componentDelay, edgeTiming, isDevice}
+use Rattle.rules.specs.Codes.{semanticsCode}
+use Rattle.rules.specs.Describe.{meaningCode}
 use Rattle.rules.specs.Scene.{Component, rowOf, delayOf}
 use Rattle.rules.specs.declared.kinds.KindRow.{KindRow}
 use Rattle.rules.specs.declared.kinds.KindDelay.the-variants.{Fixed, Own}
+use Rattle.rules.specs.declared.kinds.TemporalSemantics.{TemporalSemantics}
+use Rattle.rules.specs.declared.kinds.DeviceMeaning.the-variants.{NoDevice, Device}
 
 -- inside a list the default does not matter
 pub getD-inside : {A : Type 0} (l : List A) (i : ℕ) (d e : A) → i < length l → getD l i d ≡ getD l i e
@@ -42,3 +47,18 @@ module _ (code word ticks : ℕ) where
 pub edge-timing-of : (c : Component) → edgeTiming (c .kind) (c .delay) ≡ record { delay = record { «minimum_redstone_ticks» = delayOf c; «maximum_redstone_ticks» = delayOf c }; behavior = rowOf c .behavior }
 unfolding delayOf rowOf
 edge-timing-of c = refl
+
+-- what a kind means as a device
+pub no-device : (code : ℕ) → kindRow code .meaning ≡ NoDevice → false ≡ isDevice (kindRow code)
+unfolding isDevice
+no-device code e = rw e
+
+pub some-device : (code : ℕ) (s : TemporalSemantics) → kindRow code .meaning ≡ Device s → true ≡ isDevice (kindRow code)
+unfolding isDevice
+some-device code s e = rw e
+
+pub no-meaning : (code : ℕ) → kindRow code .meaning ≡ NoDevice → _≡_ {A = ℕ} 0 (meaningCode (kindRow code .meaning))
+no-meaning code e = rw e
+
+pub some-meaning : (code r : ℕ) (s : TemporalSemantics) → kindRow code .meaning ≡ Device s → r ≡ semanticsCode s → r ≡ meaningCode (kindRow code .meaning)
+some-meaning code r s e q = rw e q

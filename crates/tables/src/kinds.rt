@@ -1,6 +1,8 @@
 // The kind table: what each block kind is in the timing analysis.
 ghost use mathlib.Core.Path.{_≡_};
-ghost use Rattle.rules.specs.Kinds.{kindRow, componentDelay, edgeTiming};
+ghost use Rattle.rules.specs.Kinds.{kindRow, componentDelay, edgeTiming, isDevice};
+ghost use Rattle.rules.specs.Describe.{meaningCode};
+use crate::codes::semantics_code;
 use rules::delay::DelayRange;
 use rules::kinds::DeviceMeaning;
 use rules::kinds::EdgeBehavior;
@@ -110,5 +112,29 @@ pub fn edge_timing(code: u8, word: u16) -> EdgeTiming
             maximum_redstone_ticks: ticks,
         },
         behavior,
+    }
+}
+
+// Whether a kind is a device.
+pub fn is_device(code: u8) -> bool
+    ensures { λ r. ⌜ r ≡ isDevice (kindRow code) ⌝ }
+{
+    let row = kind_row(code);
+    let meaning = row.meaning;
+    match meaning {
+        DeviceMeaning::NoDevice => false,
+        DeviceMeaning::Device(semantics) => true,
+    }
+}
+
+// The number of what a kind means as a device; 0 where it is none.
+pub fn meaning_code(code: u8) -> u8
+    ensures { λ r. ⌜ r ≡ meaningCode (kindRow code .meaning) ⌝ }
+{
+    let row = kind_row(code);
+    let meaning = row.meaning;
+    match meaning {
+        DeviceMeaning::NoDevice => 0,
+        DeviceMeaning::Device(semantics) => semantics_code(semantics),
     }
 }
