@@ -30,7 +30,7 @@ use Rattle.laws.proofs.Chains.{chain-before, chain-once}
 use Rattle.laws.proofs.Projection.{first-edges-out, first-kept, chain-ids, projected-count, path-ids-count}
 use Rattle.rules.proofs.Scenes.{EndsListed, DistinctIds}
 
-keep-fewer : {A : Type 0} (f : A → Bool) (l : List A) → length (keep f l) ≤ length l
+pub keep-fewer : {A : Type 0} (f : A → Bool) (l : List A) → length (keep f l) ≤ length l
 keep-fewer f l = omega (arith, keep-length f l, count-under f (λ x. true) l (λ x m t. tt), count-every l)
 
 module _ (cs : List Component) (ns : List Connection) where

@@ -39,6 +39,15 @@ fitting-room order starts stops e =
     let b = both (leb (sceneLimits .connections) (length starts)) _ (a .1) in
     record { order-room = leb-true _ _ (a .0); starts-room = leb-true _ _ (b .0); stops-room = leb-true _ _ (b .1) }
 
+-- and the converse
+pub room-fits : (order starts stops : List ℕ) → IndexRoom order starts stops → positionsFit sceneLimits (length order) (length starts) (length stops) ≡ true
+unfolding positionsFit
+room-fits order starts stops r = simp (le-leb _ _ (r .order-room), le-leb _ _ (r .starts-room), le-leb _ _ (r .stops-room))
+
+-- lists of other contents and the same lengths have the same room
+pub room-kept : {order starts stops order′ starts′ stops′ : List ℕ} → IndexRoom order starts stops → length order′ ≡ length order → length starts′ ≡ length starts → length stops′ ≡ length stops → IndexRoom order′ starts′ stops′
+room-kept r p q s = record { order-room = omega (arith, r .order-room); starts-room = omega (arith, r .starts-room); stops-room = omega (arith, r .stops-room) }
+
 module _ (l : ComponentLists) (m : ConnectionLists) (outputs : List Output) (order starts stops : List ℕ) where
   pub positioned : true ≡ positionsFit sceneLimits (length order) (length starts) (length stops) → (order′ starts′ stops′ : List ℕ) (checked : Checked) (edges : ℕ)
       → Indexed sceneLimits l m outputs order′ starts′ stops′ checked edges → ScenePositioned sceneLimits l m outputs order starts stops order′ starts′ stops′ true checked edges

@@ -1,4 +1,3 @@
-
 -- A kind is a device where its row says so. Assumes nothing.
 use Rattle.tables.proofs.Table.{no-device, some-device}
 use borrow.Author.Needs.{needs}

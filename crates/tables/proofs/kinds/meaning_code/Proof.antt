@@ -1,4 +1,3 @@
-
 -- A kind is a device where its row says so. Assumes nothing.
 use Rattle.tables.proofs.Table.{no-meaning, some-meaning}
 use borrow.Author.Needs.{needs}

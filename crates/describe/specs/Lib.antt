@@ -1,0 +1,4 @@
+-- What the passes of the crate promise each other; what the call promises is in the crate rules
+pub mod Tested
+pub mod Rows
+pub mod Components
