@@ -1,11 +1,13 @@
-//! Links the library's archive, `libscene.a`, from target/staticlib of the repository or from the
-//! folder that `SCENE_ARCHIVE` names.
+//! Links the library's archives from target/staticlib of the repository or from the folder that
+//! `COMPARE_ARCHIVES` names.
 use std::env;
 use std::path::PathBuf;
 
+const CRATES: [&str; 4] = ["scene", "describe", "assess", "projection"];
+
 fn main() {
     let here = PathBuf::from(env::var_os("CARGO_MANIFEST_DIR").expect("set by cargo"));
-    let folder = match env::var_os("SCENE_ARCHIVE") {
+    let folder = match env::var_os("COMPARE_ARCHIVES") {
         Some(folder) => PathBuf::from(folder),
         None => here
             .ancestors()
@@ -13,16 +15,17 @@ fn main() {
             .expect("the repository")
             .join("target/staticlib"),
     };
-    let archive = folder.join("libscene.a");
-    println!("cargo::rerun-if-env-changed=SCENE_ARCHIVE");
-    println!("cargo::rerun-if-changed={}", archive.display());
-    if !archive.is_file() {
-        println!(
-            "cargo::error=there is no {}: run `rt staticlib scene` at the top of the repository first",
-            archive.display()
-        );
-        return;
-    }
+    println!("cargo::rerun-if-env-changed=COMPARE_ARCHIVES");
     println!("cargo::rustc-link-search=native={}", folder.display());
-    println!("cargo::rustc-link-lib=static=scene");
+    for name in CRATES {
+        let archive = folder.join(format!("lib{name}.a"));
+        println!("cargo::rerun-if-changed={}", archive.display());
+        println!("cargo::rustc-link-lib=static={name}");
+        if !archive.is_file() {
+            println!(
+                "cargo::error=there is no {}: run `rt staticlib {name}` at the top of the repository first",
+                archive.display()
+            );
+        }
+    }
 }

@@ -19,7 +19,7 @@ pub struct FeedbackNumbers {
 
 /// Declares a C function that takes the ten lists of a scene and then more.
 macro_rules! scene_function {
-    ($name:ident($($more:ident: $type:ty),*) -> $result:ty) => {
+    ($name:ident($($more:tt: $type:ty),*) -> $result:ty) => {
         unsafe extern "C" {
             fn $name(
                 ids: *const u64, ids_length: usize,

@@ -1,32 +1,40 @@
 //! The families that are the same in every run.
+use generator::kinds::{LEVER, REPEATER};
 use generator::lists::SceneLists;
 use generator::rng::Rng;
 use generator::{faulty, fill, shapes, small};
 
-use crate::builds::{BUILDS, lists_of};
+use crate::builds::BUILDS;
 use crate::rooms;
-use crate::run::{run, run_known};
+use crate::run::{run, run_build};
 use crate::tally::Tally;
 
 /// The builds of document 01, every small scene, every small faulty one, and every room of some.
 pub fn families(tally: &mut Tally) -> Result<(), String> {
     let rng = &mut Rng::new(0);
-    for build in BUILDS {
-        let case = rooms::enough(rng, lists_of(build));
-        run_known(tally, "builds of document 01", &case, build.2)?;
+    for build in &BUILDS {
+        let case = rooms::enough(rng, build.lists());
+        run_build(tally, build, &case)?;
     }
     all(tally, rng, "all of up to two", small::up_to_two())?;
-    all(tally, rng, "all of three", small::three())?;
+    all(tally, rng, "all sets of three", small::three())?;
+    all(tally, rng, "all lists of three", small::three_with_lists())?;
     all(tally, rng, "all faulty rows", faulty::components())?;
     all(tally, rng, "all faulty rows", faulty::connections())?;
     for lists in faulty::lengths() {
         let case = rooms::doubtful(rng, lists);
         run(tally, "all faulty lengths", &case)?;
     }
+    let longest = longest_chains();
+    all(tally, rng, "longest chains", longest.into_iter())?;
     for n in [0, 1, 2, 5, 40] {
         let sketch = shapes::dense(rng, n);
-        for case in rooms::all(&fill::filled(rng, &sketch)) {
-            run(tally, "all rooms", &case)?;
+        let lists = fill::filled(rng, &sketch);
+        for case in rooms::all_of_check(rng, &lists) {
+            run(tally, "all rooms of the check", &case)?;
+        }
+        for case in rooms::all_of_calls(rng, &lists) {
+            run(tally, "all short number lists", &case)?;
         }
     }
     Ok(())
@@ -43,4 +51,21 @@ fn all(
         run(tally, family, &rooms::enough(rng, lists))?;
     }
     Ok(())
+}
+
+/// A lever and 511 repeaters of the largest delay in a row, left open, with a shortcut from the
+/// lever to the end, and closed to a ring: the largest sums and the deepest visits.
+fn longest_chains() -> [SceneLists; 3] {
+    let mut open = SceneLists::default();
+    for id in 0..512 {
+        let kind = if id == 0 { LEVER } else { REPEATER };
+        open.push_component(id, kind, 255, 0, [0, 0, 0]);
+    }
+    for id in 1..512 {
+        open.push_connection(id - 1, id, 4);
+    }
+    let (mut shortcut, mut closed) = (open.clone(), open.clone());
+    shortcut.push_connection(0, 511, 4);
+    closed.push_connection(511, 0, 4);
+    [open, shortcut, closed]
 }

@@ -1,50 +1,52 @@
-//! Holds the library's archive against the unchanged Rust and against document 01's refusals.
+//! Holds the library's archives against the unchanged Rust and against document 01.
 //!
-//!     compare [SEED] [ROUNDS]
+//!     compare [--seed SEED] [--rounds ROUNDS]
 //!
 //! Round k of a seed is round 0 of the seed k higher, so a failing round is replayed alone.
-mod archive;
-mod builds;
-mod case;
-mod document;
-mod fixed;
-mod reference;
-mod rooms;
-mod round;
-mod run;
-mod tally;
-
 use std::process::exit;
 
-use tally::Tally;
+use compare::tally::Tally;
+use compare::{fixed, round};
 
 const SEED: u64 = 1;
 const ROUNDS: u64 = 20;
 
-fn argument(place: usize, otherwise: u64) -> u64 {
-    let Some(text) = std::env::args().nth(place) else {
-        return otherwise;
-    };
-    text.parse().unwrap_or_else(|_| {
-        eprintln!("compare [SEED] [ROUNDS]: {text} is no number");
-        exit(2)
-    })
+fn misused(word: &str) -> ! {
+    eprintln!("compare [--seed SEED] [--rounds ROUNDS]: {word}?");
+    exit(2)
+}
+
+/// Seed and rounds.
+fn arguments() -> (u64, u64) {
+    let (mut seed, mut rounds) = (SEED, ROUNDS);
+    let mut words = std::env::args().skip(1);
+    while let Some(word) = words.next() {
+        let number = words.next().and_then(|text| text.parse().ok());
+        match (word.as_str(), number) {
+            ("--seed", Some(number)) => seed = number,
+            ("--rounds", Some(number)) => rounds = number,
+            _ => misused(&word),
+        }
+    }
+    (seed, rounds)
 }
 
 fn fail(difference: &str, replay: &str) -> ! {
-    println!("DIFFERENCE {difference}\nto replay: {replay}");
+    println!("DIFFERENCE {difference}\nto replay: compare {replay}");
     exit(1)
 }
 
 fn main() {
-    let (seed, rounds) = (argument(1, SEED), argument(2, ROUNDS));
+    let (seed, rounds) = arguments();
     println!("seed {seed}, {rounds} rounds");
+    // a panic is told with its case
+    std::panic::set_hook(Box::new(|_| {}));
     let mut tally = Tally::default();
-    fixed::families(&mut tally).unwrap_or_else(|difference| fail(&difference, "compare 0 0"));
+    fixed::families(&mut tally).unwrap_or_else(|difference| fail(&difference, "--rounds 0"));
     for k in 0..rounds {
         let seed = seed.wrapping_add(k);
         round::round(&mut tally, seed)
-            .unwrap_or_else(|difference| fail(&difference, &format!("compare {seed} 1")));
+            .unwrap_or_else(|difference| fail(&difference, &format!("--seed {seed} --rounds 1")));
     }
     println!("{tally}");
     let missing = tally.missing();

@@ -1,14 +1,16 @@
 //! One round of random cases.
 use generator::damage::{
-    COMPONENT_COUNTS, CONNECTION_COUNTS, Fault, damage, every_fault, several_faults,
+    COMPONENT_COUNTS, COMPONENTS_BEYOND, CONNECTION_COUNTS, CONNECTIONS_BEYOND, Fault, damage,
+    every_fault, several_faults,
 };
 use generator::fill::filled;
 use generator::lists::SceneLists;
 use generator::rng::Rng;
 use generator::shapes::{SHAPES, Shape};
 
+use crate::order::shuffle_connections;
 use crate::rooms;
-use crate::run::{run, run_known};
+use crate::run::{run, run_orders};
 use crate::tally::Tally;
 
 /// Smallest and largest number of components, and how many scenes of each shape a round has.
@@ -26,6 +28,7 @@ pub fn round(tally: &mut Tally, seed: u64) -> Result<(), String> {
         }
     }
     limits(tally, rng)?;
+    beyond(tally, rng)?;
     for fault in every_fault() {
         for most in [8, 60] {
             damaged(tally, rng, "one fault", most, &[fault])?;
@@ -52,22 +55,13 @@ fn scene(rng: &mut Rng, shape: &Shape, n: usize) -> SceneLists {
     filled(rng, &sketch)
 }
 
-/// A random scene, and the same with its connections in another order: list 4 stays.
+/// A random scene, and the same with its connections in another order.
 fn random(tally: &mut Tally, rng: &mut Rng, shape: &Shape, n: usize) -> Result<(), String> {
     let lists = scene(rng, shape, n);
-    let mut shuffled = lists.clone();
-    shuffle_connections(rng, &mut shuffled);
-    let ids = run(tally, shape.0, &rooms::enough(rng, lists))?;
-    let case = rooms::enough(rng, shuffled);
-    run_known(tally, "shuffled connections", &case, &ids)
-}
-
-fn shuffle_connections(rng: &mut Rng, lists: &mut SceneLists) {
-    let mut order: Vec<_> = (0..lists.sources.len()).collect();
-    rng.shuffle(&mut order);
-    lists.sources = order.iter().map(|i| lists.sources[*i]).collect();
-    lists.sinks = order.iter().map(|i| lists.sinks[*i]).collect();
-    lists.transfers = order.iter().map(|i| lists.transfers[*i]).collect();
+    let shuffled = shuffle_connections(rng, &lists);
+    let case = rooms::enough(rng, lists);
+    let other = rooms::enough(rng, shuffled);
+    run_orders(tally, [shape.0, "shuffled connections"], [&case, &other])
 }
 
 /// The sizes at both limits, each with each.
@@ -78,6 +72,20 @@ fn limits(tally: &mut Tally, rng: &mut Rng) -> Result<(), String> {
             let sizes = [Fault::Components(n), Fault::Connections(m)];
             damaged(tally, rng, "sizes at the limits", most, &sizes)?;
         }
+    }
+    Ok(())
+}
+
+/// Sizes far beyond a limit, with the other one kept or not.
+fn beyond(tally: &mut Tally, rng: &mut Rng) -> Result<(), String> {
+    let components = Fault::Components(rng.pick(&COMPONENTS_BEYOND));
+    let connections = Fault::Connections(rng.pick(&CONNECTIONS_BEYOND));
+    for sizes in [
+        &[components][..],
+        &[connections],
+        &[components, connections],
+    ] {
+        damaged(tally, rng, "sizes far beyond", 60, sizes)?;
     }
     Ok(())
 }

@@ -1,32 +1,76 @@
-//! Runs one case of a family. A difference is told in full, with its case.
-use crate::case::{Case, compare};
+//! Runs one case of a family. A difference is told in full, with its case made small.
+use std::panic::{AssertUnwindSafe, catch_unwind};
+
+use crate::builds::{Build, brief};
+use crate::case::Case;
+use crate::difference::Difference;
+use crate::order::same_answers;
+use crate::shrink::shrunk;
+use crate::sides::{Agreed, compare};
 use crate::tally::Tally;
 
-/// Compares a case and counts it; what comes back is list 4, empty under a refusal.
-pub fn run(tally: &mut Tally, family: &'static str, case: &Case) -> Result<Vec<u64>, String> {
-    let agreed = compare(case).map_err(|difference| told(family, &difference, case))?;
-    tally.add(family, &agreed);
-    Ok(agreed.feedback.unwrap_or_default())
+/// Compares a case and counts it.
+pub fn run(tally: &mut Tally, family: &'static str, case: &Case) -> Result<Agreed, String> {
+    let agreed = compared(case).map_err(|difference| {
+        let same = |case: &Case| compared(case).is_err_and(|other| other.what == difference.what);
+        told_small(family, &difference, case, same)
+    })?;
+    tally.add(family, &case.lists, &agreed);
+    Ok(agreed)
 }
 
-fn told(family: &str, difference: &str, case: &Case) -> String {
-    format!("in the family '{family}': {difference}\n{case}")
+/// A side that panics has no answer; that is a difference too.
+fn compared(case: &Case) -> Result<Agreed, Difference> {
+    catch_unwind(AssertUnwindSafe(|| compare(case))).unwrap_or_else(|payload| {
+        let text = payload.downcast_ref::<String>().map(String::as_str);
+        let text = text.or(payload.downcast_ref::<&str>().copied());
+        Err(Difference::new("a panic", text.unwrap_or("without a text")))
+    })
 }
 
-/// As `run`, where list 4 is known beforehand.
-pub fn run_known(
-    tally: &mut Tally,
-    family: &'static str,
+fn told_small(
+    family: &str,
+    difference: &Difference,
     case: &Case,
-    known: &[u64],
-) -> Result<(), String> {
-    let ids = run(tally, family, case)?;
-    if ids == known {
+    differs: impl Fn(&Case) -> bool,
+) -> String {
+    let Difference { what, told } = difference;
+    let small = shrunk(case, differs);
+    let again = match compared(&small) {
+        Err(difference) => difference.told,
+        Ok(_) => "as above".to_owned(),
+    };
+    format!("in the family '{family}', {what}: {told}\n{case}\n\nmade small: {again}\n{small}")
+}
+
+/// A build of document 01, whose answer is known beforehand.
+pub fn run_build(tally: &mut Tally, build: &Build, case: &Case) -> Result<(), String> {
+    let agreed = run(tally, "builds of document 01", case)?;
+    let expected = agreed.expected.as_ref();
+    let answer = expected.map(|expected| brief(&case.lists.ids, &expected.assessed));
+    if answer.as_deref() == Some(build.answer) {
         return Ok(());
     }
-    Err(told(
-        family,
-        &format!("all sides have list 4 {ids:?}, but it should be {known:?}"),
-        case,
+    let known = build.answer;
+    Err(format!(
+        "all sides have {answer:?}, but document 01 has {known:?}\n{case}"
     ))
+}
+
+/// Two cases of the same connections in different orders, with room for all answers.
+pub fn run_orders(
+    tally: &mut Tally,
+    families: [&'static str; 2],
+    cases: [&Case; 2],
+) -> Result<(), String> {
+    let one = run(tally, families[0], cases[0])?;
+    let other = run(tally, families[1], cases[1])?;
+    // these are the entries that the library has written too
+    let (Some(one), Some(other)) = (one.expected, other.expected) else {
+        return Ok(());
+    };
+    same_answers(&one.assessed, &other.assessed).map_err(|Difference { what, told }| {
+        let (family, [one, other]) = (families[0], cases);
+        format!("in the family '{family}', {what}: {told}\n{one}\n\nand\n{other}")
+    })
 }

@@ -2,8 +2,12 @@
 use std::collections::{BTreeMap, BTreeSet};
 use std::fmt::{self, Display, Formatter};
 
-use crate::case::Agreed;
+use generator::lists::SceneLists;
+
+use crate::calls::{AssessLists, DescribeLists, SceneCall};
 use crate::document::Refusal;
+use crate::reached::{WANTED, shown};
+use crate::sides::Agreed;
 
 /// Of one family.
 #[derive(Default)]
@@ -11,31 +15,50 @@ struct Counts {
     cases: usize,
     accepted: usize,
     with_feedback: usize,
+    with_unequal: usize,
 }
+
+/// Of one call: how often it refused by each number, and where.
+#[derive(Default)]
+struct Refusals {
+    numbers: BTreeMap<u32, usize>,
+    places: BTreeSet<Refusal>,
+}
+
+const CALLS: [&str; 4] = ["check", "feedback", "describe", "assess"];
 
 #[derive(Default)]
 pub struct Tally {
     /// In the order in which the families came.
     families: Vec<(&'static str, Counts)>,
-    check: BTreeMap<u32, usize>,
-    feedback: BTreeMap<u32, usize>,
-    check_places: BTreeSet<Refusal>,
+    refusals: [Refusals; 4],
+    shown: BTreeMap<&'static str, usize>,
 }
 
 impl Tally {
-    pub fn add(&mut self, family: &'static str, agreed: &Agreed) {
+    pub fn add(&mut self, family: &'static str, lists: &SceneLists, agreed: &Agreed) {
+        let calls = [
+            agreed.check,
+            agreed.feedback,
+            agreed.describe,
+            agreed.assess,
+        ];
+        for (refusals, refusal) in self.refusals.iter_mut().zip(calls) {
+            if let Some((number, place)) = refusal {
+                *refusals.numbers.entry(number).or_default() += 1;
+                refusals.places.insert((number, place));
+            }
+        }
         let counts = self.counts(family);
         counts.cases += 1;
-        if let Ok(ids) = &agreed.feedback {
+        if let (None, Some(expected)) = (agreed.assess, &agreed.expected) {
+            let kinds = &expected.assessed.entries.reason_kinds;
             counts.accepted += 1;
-            counts.with_feedback += usize::from(!ids.is_empty());
-        }
-        if let Some((number, place)) = agreed.check {
-            *self.check.entry(number).or_default() += 1;
-            self.check_places.insert((number, place));
-        }
-        if let Err((number, _)) = agreed.feedback {
-            *self.feedback.entry(number).or_default() += 1;
+            counts.with_feedback += usize::from(kinds.contains(&1));
+            counts.with_unequal += usize::from(kinds.contains(&0));
+            for name in shown(lists, expected) {
+                *self.shown.entry(name).or_default() += 1;
+            }
         }
     }
 
@@ -50,30 +73,23 @@ impl Tally {
 
     /// What a run must have reached and has not; a comparison of nothing proves nothing.
     pub fn missing(&self) -> Vec<String> {
+        let all: Vec<usize> = (0..=8).collect();
+        let lists: [&[usize]; 4] = [&all, &[4], DescribeLists::LISTS, AssessLists::LISTS];
         let mut missing = Vec::new();
-        for number in 1..=8 {
-            if !self.check.contains_key(&number) {
-                missing.push(format!("the check reached no refusal {number}"));
-            }
-            if !self.feedback.contains_key(&number) {
-                missing.push(format!("Feedback reached no refusal {number}"));
-            }
+        for ((call, refusals), lists) in CALLS.iter().zip(&self.refusals).zip(lists) {
+            let numbers = (1..=8).filter(|number| !refusals.numbers.contains_key(number));
+            missing.extend(numbers.map(|number| format!("{call} reached no refusal {number}")));
+            let places = lists.iter().map(|list| (7, *list as u64));
+            let places: BTreeSet<_> = places.chain([(8, 0), (8, 1)]).collect();
+            let unseen = places
+                .iter()
+                .filter(|place| !refusals.places.contains(place));
+            missing.extend(unseen.map(|(number, place)| {
+                format!("{call} reached no refusal {number} at place {place}")
+            }));
         }
-        let places = (0..=8).map(|list| (7, list)).chain([(8, 0), (8, 1)]);
-        for (number, place) in places {
-            if !self.check_places.contains(&(number, place)) {
-                missing.push(format!(
-                    "the check reached no refusal {number} at place {place}"
-                ));
-            }
-        }
-        let counts = || self.families.iter().map(|(_, counts)| counts);
-        if !counts().any(|counts| counts.with_feedback > 0) {
-            missing.push("there was no Feedback".to_owned());
-        }
-        if !counts().any(|counts| counts.with_feedback < counts.accepted) {
-            missing.push("there was always Feedback".to_owned());
-        }
+        let unseen = WANTED.iter().filter(|name| !self.shown.contains_key(*name));
+        missing.extend(unseen.map(|name| format!("no answer showed '{name}'")));
         missing
     }
 }
@@ -82,21 +98,30 @@ impl Display for Tally {
     fn fmt(&self, out: &mut Formatter) -> fmt::Result {
         writeln!(
             out,
-            "family                     cases  accepted  with Feedback"
+            "family                     cases  accepted  with Feedback  with unequal delays"
         )?;
+        let mut total = 0;
         for (name, counts) in &self.families {
-            let (cases, accepted, with) = (counts.cases, counts.accepted, counts.with_feedback);
-            writeln!(out, "{name:<24}{cases:>8}{accepted:>10}{with:>15}")?;
+            let (cases, accepted) = (counts.cases, counts.accepted);
+            let (feedback, unequal) = (counts.with_feedback, counts.with_unequal);
+            writeln!(
+                out,
+                "{name:<24}{cases:>8}{accepted:>10}{feedback:>15}{unequal:>21}"
+            )?;
+            total += cases;
         }
-        writeln!(out, "refusals by the check: {}", numbers(&self.check))?;
-        write!(out, "refusals by Feedback: {}", numbers(&self.feedback))
+        writeln!(out, "all                     {total:>8}")?;
+        for (call, refusals) in CALLS.iter().zip(&self.refusals) {
+            writeln!(out, "refusals by {call}: {}", listed(&refusals.numbers))?;
+        }
+        write!(out, "scenes that show {}", listed(&self.shown))
     }
 }
 
-fn numbers(counts: &BTreeMap<u32, usize>) -> String {
+fn listed<K: Display>(counts: &BTreeMap<K, usize>) -> String {
     let shown: Vec<_> = counts
         .iter()
-        .map(|(number, count)| format!("{number}: {count}"))
+        .map(|(name, count)| format!("{name}: {count}"))
         .collect();
     shown.join(", ")
 }

@@ -45,6 +45,9 @@ const OF_CONNECTIONS: [Fault; 6] = [
 
 pub const COMPONENT_COUNTS: [usize; 3] = [511, 512, 513];
 pub const CONNECTION_COUNTS: [usize; 3] = [2047, 2048, 2049];
+/// Far beyond the limits.
+pub const COMPONENTS_BEYOND: [usize; 2] = [1024, 4096];
+pub const CONNECTIONS_BEYOND: [usize; 2] = [4096, 16384];
 
 pub fn every_fault() -> Vec<Fault> {
     let mut all = Vec::new();

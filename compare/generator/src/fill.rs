@@ -11,6 +11,11 @@ pub fn filled(rng: &mut Rng, sketch: &Sketch) -> SceneLists {
     for (id, kind) in ids.iter().zip(&sketch.kinds) {
         push_any_component(rng, &mut lists, *id, *kind);
     }
+    // one delay for all makes sums equal, or as large as they can be
+    if rng.chance(1, 5) {
+        let delay = rng.pick(&[1, 2, 255, 255, ABSENT_DELAY]);
+        lists.delays.fill(delay);
+    }
     let mut connections = Vec::new();
     for &(a, b) in &sketch.edges {
         connections.push((ids[a], ids[b], rng.below(6) as u8));

@@ -8,3 +8,4 @@ pub mod rng;
 pub mod shapes;
 pub mod sketch;
 pub mod small;
+pub mod timing;

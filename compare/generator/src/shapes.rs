@@ -6,11 +6,12 @@ use crate::sketch::{
     Sketch, any_edges, any_kinds, both_ways, forward_edges, kinds_from, line, ring, runs,
     some_kinds,
 };
+use crate::timing;
 
 /// A name, and how such a scene is sketched.
 pub type Shape = (&'static str, fn(&mut Rng, usize) -> Sketch);
 
-pub const SHAPES: [Shape; 15] = [
+pub const SHAPES: [Shape; 22] = [
     ("dense", dense),
     ("sparse", sparse),
     ("no cycle", no_cycle),
@@ -26,6 +27,13 @@ pub const SHAPES: [Shape; 15] = [
     ("supports", supports),
     ("crowded", crowded),
     ("any", any),
+    ("full, no cycle", timing::full_no_cycle),
+    ("ladder", timing::ladder),
+    ("rails", timing::rails),
+    ("adder", timing::adder),
+    ("loops behind", timing::loops_behind),
+    ("chains", timing::chains),
+    ("compressed rings", timing::compressed_rings),
 ];
 
 pub fn dense(rng: &mut Rng, n: usize) -> Sketch {

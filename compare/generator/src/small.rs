@@ -1,5 +1,5 @@
 //! Every scene of up to three components, under small sets or lists of edges.
-use crate::kinds::{ALL, REPEATER, SOLID, WIRE};
+use crate::kinds::{ALL, LEVER, REPEATER, SOLID, TORCH, WIRE};
 use crate::lists::SceneLists;
 use crate::sketch::Pair;
 
@@ -40,9 +40,7 @@ pub fn rows<T: Copy>(from: &[T], length: usize) -> Vec<Vec<T>> {
 /// Up to two components of any kinds, under every list of up to three edges.
 pub fn up_to_two() -> impl Iterator<Item = SceneLists> {
     (0..=2usize).flat_map(|n| {
-        let pairs = rows(&(0..n).collect::<Vec<_>>(), 2);
-        let pairs: Vec<Pair> = pairs.iter().map(|pair| (pair[0], pair[1])).collect();
-        let edge_lists: Vec<_> = (0..=3).flat_map(|m| rows(&pairs, m)).collect();
+        let edge_lists: Vec<_> = (0..=3).flat_map(|m| rows(&pairs(n), m)).collect();
         rows(&ALL, n).into_iter().flat_map(move |kinds| {
             let scenes: Vec<_> = edge_lists
                 .iter()
@@ -53,13 +51,28 @@ pub fn up_to_two() -> impl Iterator<Item = SceneLists> {
     })
 }
 
+/// The edges that there can be between so many components.
+fn pairs(n: usize) -> Vec<Pair> {
+    let pairs = rows(&(0..n).collect::<Vec<_>>(), 2);
+    pairs.iter().map(|pair| (pair[0], pair[1])).collect()
+}
+
+/// Three components, each a source, a wire, an inverter or a repeater, under every list of up to
+/// three edges: the same edge may come twice, and every order of the list is there.
+pub fn three_with_lists() -> impl Iterator<Item = SceneLists> {
+    let edge_lists: Vec<_> = (0..=3).flat_map(|m| rows(&pairs(3), m)).collect();
+    rows(&[LEVER, WIRE, TORCH, REPEATER], 3)
+        .into_iter()
+        .flat_map(move |kinds| {
+            let scene = |edges: &Vec<Pair>| scene(&kinds, &IDS[3], edges);
+            edge_lists.iter().map(scene).collect::<Vec<_>>()
+        })
+}
+
 /// Three components, each a wire, a conductor or neither, in every order of ids, under every set
 /// of edges, self-edges included.
 pub fn three() -> impl Iterator<Item = SceneLists> {
-    let pairs: Vec<Pair> = rows(&[0, 1, 2], 2)
-        .iter()
-        .map(|pair| (pair[0], pair[1]))
-        .collect();
+    let pairs = pairs(3);
     rows(&[WIRE, SOLID, REPEATER], 3)
         .into_iter()
         .flat_map(move |kinds| {

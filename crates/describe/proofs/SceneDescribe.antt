@@ -18,9 +18,8 @@ use Rattle.rules.proofs.Acceptance.{AcceptedScene, accepted→}
 use Rattle.rules.proofs.Shortest.{EachListed, shortest-describe}
 use Rattle.laws.proofs.PositionEdges.{inside-sources, inside-sinks}
 use Rattle.scene.specs.Indexed.{IndexRoom, Positions}
-use Rattle.scene.specs.ScenePositions.{ScenePositioned}
+use Rattle.scene.specs.ScenePositions.{ScenePositioned, Tested}
 use Rattle.scene.proofs.PositionSteps.{room-fits}
-use Rattle.describe.specs.Tested.{Tested}
 use Rattle.describe.specs.Rows.{delayAtPosition, behaviorAtPosition, devicePositions, EdgeRoom}
 use Rattle.describe.specs.Components.{ComponentRoom, ComponentsListed}
 use Rattle.describe.proofs.ChosenSteps.{devices-few}

@@ -5,7 +5,7 @@ ghost use Rattle.rules.specs.Refusals.{sceneLimits};
 ghost use Rattle.rules.specs.Describe.{checkDescribe, describeLists, DescribeCall};
 ghost use Rattle.rules.proofs.Shortest.{EachListed};
 ghost use Rattle.scene.specs.Indexed.{IndexRoom};
-ghost use Rattle.describe.specs.Tested.{Tested};
+ghost use Rattle.scene.specs.ScenePositions.{Tested};
 use crate::components::list_components;
 use crate::edges::list_timed_edges;
 use rules::answers::Checked;

@@ -8,5 +8,4 @@ pub mod ConnectionSteps
 pub mod IndexSteps
 pub mod PositionSteps
 pub mod LengthSteps
-pub mod ListingSteps
 pub mod SceneFeedback

@@ -2,7 +2,6 @@
 pub mod Room
 pub mod Steps
 pub mod Ends
--- a scene that is accepted, and its Feedback:
+-- a scene that is accepted:
 pub mod Indexed
 pub mod ScenePositions
-pub mod Listing

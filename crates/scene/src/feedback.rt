@@ -1,11 +1,15 @@
 // The call that writes list 4 alone.
+ghost use mathlib.Core.Path.{_≡_};
+ghost use mathlib.Core.List.{List};
+ghost use Prim.Native.Nat.{ℕ};
+ghost use lib.ListN.{length};
 ghost use Rattle.rules.specs.Feedback.{FeedbackCall};
+ghost use Rattle.rules.specs.Reasons.{feedbackReason};
 ghost use Rattle.rules.specs.Scene.{componentLists, connectionLists};
 ghost use Rattle.rules.specs.Refusals.{sceneLimits};
 ghost use Rattle.scene.specs.Indexed.{IndexRoom};
 use crate::index::index_scene;
-use crate::listing::active_feedback_components;
-use crate::listing::feedback_reasons;
+use reasons::feedback::active_feedback_components;
 use rules::answers::Checked;
 use rules::answers::FeedbackAnswer;
 use rules::limits::MAX_COMPONENTS;
@@ -57,19 +61,27 @@ fn feedback_indexed(
             place: place,
         },
         Checked::Accepted => {
-            let listed = active_feedback_components(
+            let found = active_feedback_components(
                 ids,
                 kinds,
                 &starts[..edges],
                 &stops[..edges],
                 feedback_ids,
             );
+            let listed = found.listed;
             FeedbackAnswer::Listed {
                 feedback: listed as u64,
                 reasons: feedback_reasons(listed),
             }
         }
     }
+}
+
+// How many Feedback reasons there are, of the ids listed.
+fn feedback_reasons(listed: usize) -> u64
+    ensures { λ r. ⌜ ((ids : List ℕ) → listed ≡ length ids → r ≡ length (feedbackReason ids)) ⌝ }
+{
+    if 0 < listed { 1 } else { 0 }
 }
 
 // Lists the Feedback ids of a scene, or refuses the scene and leaves the list as it was.

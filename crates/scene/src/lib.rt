@@ -8,4 +8,3 @@ mod sizes; // sizes.rt: the tests of lengths, 8, 1, 2 and 7
 mod components; // components.rt: the tests of components, 4 and 3
 mod connections; // connections.rt: the tests of connections, 5 and 6, and the edges over positions
 mod index; // index.rt: a scene tested whole and indexed
-mod listing; // listing.rt: the components of list 4, from the edges over positions

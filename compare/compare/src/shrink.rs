@@ -1,0 +1,146 @@
+//! Makes a case that shows a difference smaller, as long as it shows one of the same sort.
+use generator::lists::SceneLists;
+
+use crate::calls::{AssessLists, DescribeLists, SceneCall};
+use crate::case::Case;
+
+/// Tries no more than so many cases.
+const TRIES: usize = 5000;
+
+/// `differs` says whether a case still shows the difference.
+pub fn shrunk(case: &Case, differs: impl Fn(&Case) -> bool) -> Case {
+    let mut best = case.clone();
+    let mut tries = 0;
+    loop {
+        let smaller = smaller_cases(&best).find(|case| {
+            tries += 1;
+            tries <= TRIES && differs(case)
+        });
+        match smaller {
+            Some(case) => best = case,
+            None => return best,
+        }
+    }
+}
+
+/// Smaller or plainer cases, great steps first.
+fn smaller_cases(case: &Case) -> impl Iterator<Item = Case> {
+    let lengths = case.lists.lengths();
+    let rows = lengths[..7].iter().all(|length| *length == lengths[0]);
+    let rows = rows && lengths[7..].iter().all(|length| *length == lengths[7]);
+    // lists of different lengths have no rows that could be left out
+    let (n, m) = if rows {
+        (lengths[0], lengths[7])
+    } else {
+        (0, 0)
+    };
+    let connections =
+        parts(m).map(|(from, to)| case.with(without_connections(&case.lists, from, to)));
+    let components =
+        parts(n).map(|(from, to)| case.with(without_components(&case.lists, from, to)));
+    connections.chain(components).chain(plainer(case))
+}
+
+/// Parts of so many rows: halves first, then quarters, and so on to single rows.
+fn parts(rows: usize) -> impl Iterator<Item = (usize, usize)> {
+    let sizes = std::iter::successors(Some(rows.div_ceil(2)), |size| {
+        (*size > 1).then_some(size.div_ceil(2))
+    });
+    sizes.filter(|size| *size > 0).flat_map(move |size| {
+        (0..rows)
+            .step_by(size)
+            .map(move |from| (from, (from + size).min(rows)))
+    })
+}
+
+fn without_connections(lists: &SceneLists, from: usize, to: usize) -> SceneLists {
+    let mut left = lists.clone();
+    left.sources.drain(from..to);
+    left.sinks.drain(from..to);
+    left.transfers.drain(from..to);
+    left
+}
+
+/// The connections that name them go with the components.
+fn without_components(lists: &SceneLists, from: usize, to: usize) -> SceneLists {
+    let gone = &lists.ids[from..to];
+    let mut left = lists.clone();
+    for i in (0..lists.sources.len()).rev() {
+        if gone.contains(&lists.sources[i]) || gone.contains(&lists.sinks[i]) {
+            left = without_connections(&left, i, i + 1);
+        }
+    }
+    left.ids.drain(from..to);
+    left.kinds.drain(from..to);
+    left.delays.drain(from..to);
+    left.locked.drain(from..to);
+    left.xs.drain(from..to);
+    left.ys.drain(from..to);
+    left.zs.drain(from..to);
+    left
+}
+
+/// The same size with plainer numbers, where that changes anything.
+fn plainer(case: &Case) -> impl Iterator<Item = Case> {
+    let numbers = [
+        small_ids,
+        no_positions,
+        small_delays,
+        unlocked,
+        one_transfer,
+    ];
+    let scenes = numbers.map(|change| {
+        let mut lists = case.lists.clone();
+        change(&mut lists);
+        case.with(lists)
+    });
+    let changed = |other: &Case| other.lists != case.lists;
+    let scenes: Vec<_> = scenes.into_iter().filter(changed).collect();
+    let mut exact = case.clone();
+    exact.describe = exact_lengths(case, DescribeLists::LISTS, &case.describe);
+    exact.assess = exact_lengths(case, AssessLists::LISTS, &case.assess);
+    let shorter = exact.describe != case.describe || exact.assess != case.assess;
+    scenes.into_iter().chain(shorter.then_some(exact))
+}
+
+/// No list is longer than it needs to be.
+fn exact_lengths(case: &Case, lists: &[usize], lengths: &[usize]) -> Vec<usize> {
+    let pairs = lists.iter().zip(lengths);
+    pairs
+        .map(|(list, length)| case.need(*list).min(*length))
+        .collect()
+}
+
+/// Ids from 1 on, in the same order.
+fn small_ids(lists: &mut SceneLists) {
+    let mut known = [&lists.ids[..], &lists.sources[..], &lists.sinks[..]].concat();
+    known.sort();
+    known.dedup();
+    for list in [&mut lists.ids, &mut lists.sources, &mut lists.sinks] {
+        for id in list {
+            *id = 1 + known.binary_search(id).expect("a known id") as u64;
+        }
+    }
+}
+
+fn no_positions(lists: &mut SceneLists) {
+    for list in [&mut lists.xs, &mut lists.ys, &mut lists.zs] {
+        list.fill(0);
+    }
+}
+
+fn small_delays(lists: &mut SceneLists) {
+    for delay in &mut lists.delays {
+        *delay = (*delay).min(2);
+    }
+}
+
+fn unlocked(lists: &mut SceneLists) {
+    lists.locked.fill(0);
+}
+
+fn one_transfer(lists: &mut SceneLists) {
+    for transfer in &mut lists.transfers {
+        *transfer = if *transfer < 6 { 1 } else { *transfer };
+    }
+}

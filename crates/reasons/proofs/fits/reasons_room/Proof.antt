@@ -1,0 +1,28 @@
+-- Assumes nothing.
+use borrow.Author.Tests.{le-leb, lt-leb}
+use Rattle.reasons.specs.Fits.{reasonsRoom}
+use Rattle.reasons.proofs.fits.reasons_room.Statement.{statement}
+use Rattle.reasons.proofs.fits.reasons_room.Tie as tie
+
+returns : tie.Need-returns
+unfolding reasonsRoom
+returns c = simp (lt-leb _ _ (c .if1 .taken))
+
+returns-2 : tie.Need-returns-2
+unfolding reasonsRoom
+returns-2 c = simp (le-leb _ _ (c .before .if1 .left), lt-leb _ _ (c .if2 .taken))
+
+returns-3 : tie.Need-returns-3
+unfolding reasonsRoom
+returns-3 c = simp (le-leb _ _ (c .before .before .if1 .left), le-leb _ _ (c .before .if2 .left), lt-leb _ _ (c .if3 .taken))
+
+returns-4 : tie.Need-returns-4
+unfolding reasonsRoom
+returns-4 c = simp (le-leb _ _ (c .before .before .before .if1 .left), le-leb _ _ (c .before .before .if2 .left), le-leb _ _ (c .before .if3 .left), lt-leb _ _ (c .if4 .taken))
+
+returns-5 : tie.Need-returns-5
+unfolding reasonsRoom
+returns-5 c = simp (le-leb _ _ (c .before .before .before .if1 .left), le-leb _ _ (c .before .before .if2 .left), le-leb _ _ (c .before .if3 .left), le-leb _ _ (c .if4 .left))
+
+pub reasons-room-spec : {M : Type 1} → statement M
+reasons-room-spec = tie.close (tie.spec returns returns-2 returns-3 returns-4 returns-5)
