@@ -27,8 +27,8 @@ retainedCount es compressible n = count (λ v. not (compressedNode es compressib
 abbrev pub invertsFrom : (inverts : List ℕ) → ℕ → Bool
 invertsFrom inverts v = not (eqb (keyAt inverts v) 0)
 
--- "From each retained component by rising id, along each outgoing edge in list order, the chain is walked through compressed components up
--- to the next retained one": the entries of list 6 with their paths, by the names of the nodes. `order` has the nodes by rising name.
+-- "From each retained component by rising id, along each outgoing edge in list order, the chain is walked through compressed components.":
+-- the entries of list 6 with their paths, by the names of the nodes. `order` has the nodes by rising name.
 -- Crate laws, ByPosition, projected-by-position, says that these are a scene's projected edges
 unfoldable pub projectedEntries : (ids : List ℕ) → List Edge → (low high inverts compressible order : List ℕ) → List ProjectedEdge
 projectedEntries ids es low high inverts compressible order =
