@@ -31,7 +31,7 @@ module _ (next : List ℕ) (lo : ℕ) (up : RisesFrom lo next) where
       go true t ih = ap (λ r. e ∷ r) (ih (ltb-true _ _ t))
       go false t ih = refl
 
-  chain-step : (e : ℕ) → lo ≤ e → e < length next → chain next e ≡ e ∷ chain next (getD next e 0)
+  pub chain-step : (e : ℕ) → lo ≤ e → e < length next → chain next e ≡ e ∷ chain next (getD next e 0)
   unfolding chain follow
   chain-step e l lt =
       follow-same (length next - e) (suc (length next)) e l (omega arith) (omega arith)
@@ -54,7 +54,7 @@ module _ (next : List ℕ) (lo : ℕ) (up : RisesFrom lo next) where
   unfolding chain
   chain-set j x e h l = rw (length-set next j x) (follow-set (length next - e) j x e h l)
 
-chain-end : (next : List ℕ) (e : ℕ) → length next ≤ e → chain next e ≡ []
+pub chain-end : (next : List ℕ) (e : ℕ) → length next ≤ e → chain next e ≡ []
 unfolding chain follow
 chain-end next e h = ap (λ f. follow f next e) (let z : length next - e ≡ 0 = omega arith in z)
 

@@ -3,6 +3,7 @@ pub mod Room
 pub mod SizeSteps
 pub mod Repeats
 pub mod ComponentSteps
+pub mod BucketSteps
 pub mod ConnectionSteps
 -- a scene that is accepted, and its Feedback:
 pub mod IndexSteps

@@ -7,7 +7,7 @@ use lib.ListN.{length, getD, take}
 use Rattle.rules.specs.Ordered.{ordered}
 use Rattle.rules.specs.Graph.{edgesBetween}
 use Rattle.rules.specs.Scene.{ComponentLists, componentLists, Connection, ConnectionLists, isEdge, edgesOf, connectionsOf}
-use Rattle.rules.specs.Refusals.{badTransfer, endMissing, connectionTests, firstRefusal, rows}
+use Rattle.rules.specs.Refusals.{sceneLimits, badTransfer, endMissing, connectionTests, firstRefusal, rows}
 use Rattle.rules.specs.declared.answers.Checked.{Checked}
 use Rattle.rules.specs.declared.answers.Checked.the-variants.{Accepted}
 use Rattle.rules.specs.Positions.{Positioned}
@@ -27,9 +27,10 @@ pub data LookedUp (ids : List ℕ) (n : Connection) : (refusal edges start stop 
   edge : (T (badTransfer n) → ⊥) → (T (endMissing ids n) → ⊥) → T (isEdge n) → (a b : ℕ) → a < length ids → getD ids a 0 ≡ n .source → b < length ids → getD ids b 0 ≡ n .sink
       → LookedUp ids n 0 1 a b
 
--- the ids are ordered, the lists of connections have one length, and there is room for an edge from each
+-- the ids are within the limits and ordered, the lists of connections have one length, and there is room for an edge from each
 pub record Joined (ids order sources sinks transfers starts stops : List ℕ) : Type 0 where
   pub sorted : order ≡ ordered ids
+  pub nodes-few : length ids ≤ sceneLimits .components
   pub sinks-length : length sinks ≡ length sources
   pub transfers-length : length transfers ≡ length sources
   pub starts-room : length sources ≤ length starts

@@ -2,6 +2,7 @@
 pub mod Room
 pub mod Steps
 pub mod Ends
+pub mod Buckets
 -- a scene that is accepted:
 pub mod Indexed
 pub mod ScenePositions

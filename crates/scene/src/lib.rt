@@ -6,5 +6,6 @@ pub mod exports; // exports.rt: the calls for C
 pub mod lengths; // lengths.rt: the shortest of an output list's number lists
 mod sizes; // sizes.rt: the tests of lengths, 8, 1, 2 and 7
 mod components; // components.rt: the tests of components, 4 and 3
+mod buckets; // buckets.rt: the position of an id, by buckets
 mod connections; // connections.rt: the tests of connections, 5 and 6, and the edges over positions
 mod index; // index.rt: a scene tested whole and indexed
