@@ -1,7 +1,7 @@
 -- What is said of each component's kind. Assumes nothing.
 use mathlib.Core.Bool.{cond}
 use mathlib.Core.List.{List, map}
-use mathlib.Core.Path.{_≡_, sym, ap, _∙_}
+use mathlib.Core.Path.{_≡_, ap, _∙_}
 use Prim.Native.Nat.{ℕ}
 use lib.ListN.{length}
 use Rattle.rules.specs.Kinds.{kindRow, componentDelay}
@@ -10,14 +10,15 @@ use Rattle.rules.specs.Ordered.{keyAt}
 use Rattle.rules.proofs.Made.{Made}
 use Rattle.assess.specs.Nodes.{delaysOf, invertsOf, compressibleOf}
 use Rattle.rules.specs.Projection.{isDelayedInvert, compressibleKind}
-use Rattle.rules.specs.declared.kinds.EdgeBehavior.{EdgeBehavior}
-use Rattle.rules.specs.declared.kinds.TemporalNodeKind.{TemporalNodeKind}
+use Rattle.rules.specs.declared.kinds.KindRow.{KindRow}
 
-pub by-behavior : (kind : ℕ) (b : EdgeBehavior) → kindRow kind .behavior ≡ b → _≡_ {A = ℕ} (cond (isDelayedInvert b) 1 0) (cond (isDelayedInvert (kindRow kind .behavior)) 1 0)
-by-behavior kind b e = ap (λ (x : EdgeBehavior). let n : ℕ = cond (isDelayedInvert x) 1 0 in n) (sym e)
+-- by the row of a kind
+module _ (row : KindRow) (kind r : ℕ) (e : row ≡ kindRow kind) where
+  pub inverts-of-row : r ≡ cond (isDelayedInvert (row .behavior)) 1 0 → r ≡ cond (isDelayedInvert (kindRow kind .behavior)) 1 0
+  inverts-of-row q = q ∙ ap (λ (k : KindRow). let n : ℕ = cond (isDelayedInvert (k .behavior)) 1 0 in n) e
 
-pub by-node : (kind : ℕ) (n : TemporalNodeKind) → kindRow kind .node ≡ n → _≡_ {A = ℕ} (cond (compressibleKind n) 1 0) (cond (compressibleKind (kindRow kind .node)) 1 0)
-by-node kind n e = ap (λ (x : TemporalNodeKind). let k : ℕ = cond (compressibleKind x) 1 0 in k) (sym e)
+  pub compressible-of-row : r ≡ cond (compressibleKind (row .node)) 1 0 → r ≡ cond (compressibleKind (kindRow kind .node)) 1 0
+  compressible-of-row q = q ∙ ap (λ (k : KindRow). let n : ℕ = cond (compressibleKind (k .node)) 1 0 in n) e
 
 -- all of them are written
 module _ (kinds : List ℕ) where

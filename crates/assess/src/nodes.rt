@@ -2,20 +2,17 @@
 ghost use mathlib.Core.Path.{_≡_};
 ghost use mathlib.Core.Bool.{cond};
 ghost use Rattle.rules.specs.Lists.{written};
-ghost use Rattle.rules.specs.Kinds.{kindRow};
 ghost use Rattle.rules.specs.Projection.{isDelayedInvert, compressibleKind};
 ghost use Rattle.assess.specs.Nodes.{delaysOf, invertsOf, compressibleOf, NodeRoom};
 use rules::kinds::EdgeBehavior;
 use rules::kinds::TemporalNodeKind;
-use tables::kinds::component_delay;
+use tables::kinds::delay_by;
 use tables::kinds::kind_row;
 
-// 1 where the edges out of a kind are DelayedInvert, else 0.
-fn inverts_from(kind: u8) -> u8
-    ensures { λ r. ⌜ r ≡ cond (isDelayedInvert (kindRow kind .behavior)) 1 0 ⌝ }
+// 1 where edges of a behaviour invert with a delay, else 0.
+fn inverts_by(behavior: EdgeBehavior) -> u8
+    ensures { λ r. ⌜ r ≡ cond (isDelayedInvert behavior) 1 0 ⌝ }
 {
-    let row = kind_row(kind);
-    let behavior = row.behavior;
     match behavior {
         EdgeBehavior::DelayedInvert => 1,
         EdgeBehavior::Immediate => 0,
@@ -26,12 +23,10 @@ fn inverts_from(kind: u8) -> u8
     }
 }
 
-// 1 where a kind is Wire, Conductor or Delay, else 0.
-fn is_compressible(kind: u8) -> u8
-    ensures { λ r. ⌜ r ≡ cond (compressibleKind (kindRow kind .node)) 1 0 ⌝ }
+// 1 where a node is a Wire, Conductor or Delay, else 0.
+fn is_compressible(node: TemporalNodeKind) -> u8
+    ensures { λ r. ⌜ r ≡ cond (compressibleKind node) 1 0 ⌝ }
 {
-    let row = kind_row(kind);
-    let node = row.node;
     match node {
         TemporalNodeKind::Wire => 1,
         TemporalNodeKind::Conductor => 1,
@@ -58,10 +53,13 @@ pub(crate) fn fill_nodes(
 {
     let mut i = 0;
     while i < kinds.len() {
-        let kind = kinds[i];
-        low[i] = component_delay(kind, delays[i]);
-        inverts[i] = inverts_from(kind);
-        compressible[i] = is_compressible(kind);
+        let row = kind_row(kinds[i]);
+        let delay = row.delay;
+        let behavior = row.behavior;
+        let node = row.node;
+        low[i] = delay_by(delay, delays[i]);
+        inverts[i] = inverts_by(behavior);
+        compressible[i] = is_compressible(node);
         i += 1;
     }
 }

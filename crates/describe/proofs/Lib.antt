@@ -1,4 +1,5 @@
 -- The passes, step by step:
+pub mod EdgeSteps
 pub mod ChosenSteps
 pub mod EvidenceSteps
 -- positions and ids, and the call:

@@ -89,14 +89,16 @@ module _ (l : ComponentLists) (m : ConnectionLists) (old : DescribeLists) where
         record {
           kinds-length = a .kinds-length;
           delays-length = a .delays-length;
-          pairs = pairs;
-          starts-below = inside-sources (length (l .ids)) (take edges starts) (take edges stops) (sym pairs) (p .positioned .inside);
-          stops-below = inside-sinks (length (l .ids)) (take edges starts) (take edges stops) (sym pairs) (p .positioned .inside);
-          sources-room = omega (arith, starts-length, p .edges-few, long _ (List·Memᴰ·head refl));
-          sinks-room = omega (arith, starts-length, p .edges-few, long _ (List·Memᴰ·tail (List·Memᴰ·head refl)));
-          minimums-room = omega (arith, starts-length, p .edges-few, long _ (List·Memᴰ·tail (List·Memᴰ·tail (List·Memᴰ·head refl))));
-          maximums-room = omega (arith, starts-length, p .edges-few, long _ (List·Memᴰ·tail (List·Memᴰ·tail (List·Memᴰ·tail (List·Memᴰ·head refl)))));
-          behaviors-room = omega (arith, starts-length, p .edges-few, long _ (List·Memᴰ·tail (List·Memᴰ·tail (List·Memᴰ·tail (List·Memᴰ·tail (List·Memᴰ·head refl))))));
+          rows = record {
+            pairs = pairs;
+            starts-below = inside-sources (length (l .ids)) (take edges starts) (take edges stops) (sym pairs) (p .positioned .inside);
+            stops-below = inside-sinks (length (l .ids)) (take edges starts) (take edges stops) (sym pairs) (p .positioned .inside);
+            sources-room = omega (arith, starts-length, p .edges-few, long _ (List·Memᴰ·head refl));
+            sinks-room = omega (arith, starts-length, p .edges-few, long _ (List·Memᴰ·tail (List·Memᴰ·head refl)));
+            minimums-room = omega (arith, starts-length, p .edges-few, long _ (List·Memᴰ·tail (List·Memᴰ·tail (List·Memᴰ·head refl))));
+            maximums-room = omega (arith, starts-length, p .edges-few, long _ (List·Memᴰ·tail (List·Memᴰ·tail (List·Memᴰ·tail (List·Memᴰ·head refl)))));
+            behaviors-room = omega (arith, starts-length, p .edges-few, long _ (List·Memᴰ·tail (List·Memᴰ·tail (List·Memᴰ·tail (List·Memᴰ·tail (List·Memᴰ·head refl))))));
+          };
         }
 
     pub components-room : ComponentRoom (l .ids) (l .kinds) (l .delays) (l .xs) (l .ys) (l .zs) (m .sources) (m .sinks) (old .deviceComponents) (old .deviceXs) (old .deviceYs) (old .deviceZs) (old .deviceSemantics) (old .deviceDelays) (old .evidenceKinds) (old .evidenceSources) (old .evidenceSinks) (old .evidenceComponents) (old .evidenceBlocks)

@@ -31,18 +31,27 @@ devicePositions kinds n = keep (λ i. isDevice (kindRow (keyAt kinds i))) (indic
 abbrev pub Below : ℕ → List ℕ → Type 0
 Below n positions = (k : ℕ) → k < length positions → getD positions k 0 < n
 
--- edges between positions, and room for an entry of each
-pub record EdgeRoom (ids kinds delays starts stops sources sinks minimums maximums behaviors : List ℕ) : Type 0 where
-  pub kinds-length : length kinds ≡ length ids
-  pub delays-length : length delays ≡ length ids
+-- a delay word for each kind, and room for what is said of each
+pub record TimingRoom (kinds delays ticks behaviors : List ℕ) : Type 0 where
+  pub delays-length : length delays ≡ length kinds
+  pub ticks-room : length kinds ≤ length ticks
+  pub behaviors-room : length kinds ≤ length behaviors
+
+-- edges between n positions, and room for an entry of each
+pub record EdgeRows (n : ℕ) (starts stops sources sinks minimums maximums behaviors : List ℕ) : Type 0 where
   pub pairs : length stops ≡ length starts
-  pub starts-below : Below (length ids) starts
-  pub stops-below : Below (length ids) stops
+  pub starts-below : Below n starts
+  pub stops-below : Below n stops
   pub sources-room : length starts ≤ length sources
   pub sinks-room : length starts ≤ length sinks
   pub minimums-room : length starts ≤ length minimums
   pub maximums-room : length starts ≤ length maximums
   pub behaviors-room : length starts ≤ length behaviors
+
+pub record EdgeRoom (ids kinds delays starts stops sources sinks minimums maximums behaviors : List ℕ) : Type 0 where
+  pub kinds-length : length kinds ≡ length ids
+  pub delays-length : length delays ≡ length ids
+  pub rows : EdgeRows (length ids) starts stops sources sinks minimums maximums behaviors
 
 -- chosen positions, and room for an entry of each
 pub record DeviceRoom (ids kinds delays : List ℕ) (xs ys zs : List ℤ) (chosen components : List ℕ) (device-xs device-ys device-zs : List ℤ) (semantics device-delays : List ℕ) : Type 0 where

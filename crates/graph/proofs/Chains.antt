@@ -31,9 +31,9 @@ module _ (next : List ℕ) (lo : ℕ) (up : RisesFrom lo next) where
       go true t ih = ap (λ r. e ∷ r) (ih (ltb-true _ _ t))
       go false t ih = refl
 
-  pub chain-step : (e : ℕ) → lo ≤ e → e < length next → chain next e ≡ e ∷ chain next (getD next e 0)
+  step-from : (e : ℕ) → lo ≤ e → e < length next → chain next e ≡ e ∷ chain next (getD next e 0)
   unfolding chain follow
-  chain-step e l lt =
+  step-from e l lt =
       follow-same (length next - e) (suc (length next)) e l (omega arith) (omega arith)
       ∙ rw (lt-ltb e (length next) lt) (ap (λ r. e ∷ r) (follow-same (length next) (length next - getD next e 0) (getD next e 0) (omega (arith, up e l lt)) (omega arith) (omega arith)))
 
@@ -54,13 +54,17 @@ module _ (next : List ℕ) (lo : ℕ) (up : RisesFrom lo next) where
   unfolding chain
   chain-set j x e h l = rw (length-set next j x) (follow-set (length next - e) j x e h l)
 
+-- a chain begins with its edge, or it is at its end
+pub chain-step : (next : List ℕ) → Rises next → (e : ℕ) → e < length next → chain next e ≡ e ∷ chain next (getD next e 0)
+chain-step next up e lt = step-from next 0 (λ k l h. up k h) e (omega arith) lt
+
 pub chain-end : (next : List ℕ) (e : ℕ) → length next ≤ e → chain next e ≡ []
 unfolding chain follow
 chain-end next e h = ap (λ f. follow f next e) (let z : length next - e ≡ 0 = omega arith in z)
 
 ends-step : (next sinks : List ℕ) (e : ℕ) → Rises next → e < length next → ends next sinks e ≡ getD sinks e 0 ∷ ends next sinks (getD next e 0)
 unfolding ends
-ends-step next sinks e up lt = ap (map (λ k. getD sinks k 0)) (chain-step next 0 (λ k l h. up k h) e (omega arith) lt)
+ends-step next sinks e up lt = ap (map (λ k. getD sinks k 0)) (chain-step next up e lt)
 
 ends-end : (next sinks : List ℕ) (e : ℕ) → length next ≤ e → ends next sinks e ≡ []
 unfolding ends
@@ -128,7 +132,7 @@ module _ (sources head next : List ℕ) (i s : ℕ) (at : getD sources i 0 ≡ s
   -- the chain of s: the edge, then the chain as it was
   at-source : chain (set next i (getD head s 0)) i ≡ i ∷ leavingFrom (suc i) sources s
   at-source =
-      chain-step (set next i (getD head s 0)) i step-up i (le-refl i) (rw length-set (omega arith))
+      step-from (set next i (getD head s 0)) i step-up i (le-refl i) (rw length-set (omega arith))
       ∙ rw (getD-set-same next i (getD head s 0) 0 (omega arith), chain-set next (suc i) (was .up) i (getD head s 0) (getD head s 0) (lt-suc-self i) (was .after s l), was .lists s l)
 
   step-lists : (u : ℕ) → u < length (set head s i) → chain (set next i (getD head s 0)) (getD (set head s i) u 0) ≡ leavingFrom i sources u

@@ -5,6 +5,7 @@ ghost use mathlib.Core.Path.{_≡_};
 ghost use lib.ListN.{length, replicate};
 ghost use Rattle.graph.specs.Adjacency.{Below, Indexed};
 ghost use Rattle.graph.specs.Fits.{EdgesIndexed, endsBelow};
+use crate::set_all::set_all;
 
 // Links the edges by the ends in `ends`. There is a node for each entry of head, and next must have an entry for each
 // edge and no more. If it does not, or an end is no node, the answer is false and both lists keep their contents. By
@@ -42,19 +43,9 @@ pub(crate) fn index_within(sources: &[usize], head: &mut [usize], next: &mut [us
     requires { ⌜ (length (now next) ≡ length (now sources)) × Below (length (now head)) (now sources) ⌝ }
     ensures { λ _. ⌜ Indexed (now (sources .entry)) (now (head .exit)) (now (next .exit)) ⌝ }
 {
-    clear_heads(sources.len(), head);
+    // no edge leaves any node yet
+    set_all(sources.len(), head);
     link_edges(sources, head, next);
-}
-
-// No edge leaves any node yet.
-fn clear_heads(m: usize, head: &mut [usize])
-    ensures { λ _. ⌜ now (head .exit) ≡ replicate (length (now (head .entry))) m ⌝ }
-{
-    let mut u = 0;
-    while u < head.len() {
-        head[u] = m;
-        u += 1;
-    }
 }
 
 // Puts the edges in front of their chains from the last to the first, so that each chain is in the edges' order.

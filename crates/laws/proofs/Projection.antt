@@ -77,7 +77,7 @@ module _ {es fs : List Edge} (p : List·Permᴰ es fs) where
 -- The room that they need
 
 -- the edges out of distinct components, one component after the other: no edge stands there more often than in the list of edges
-rows-count : (es : List Edge) (vs : List ℕ) → Distinct vs → (p : Edge → Bool) → count p (flatMap (λ v. keep (startsAt v) es) vs) ≤ count p es
+pub rows-count : (es : List Edge) (vs : List ℕ) → Distinct vs → (p : Edge → Bool) → count p (flatMap (λ v. keep (startsAt v) es) vs) ≤ count p es
 unfolding flatMap count
 rows-count es [] d p = zero-le
 rows-count es (v ∷ vs) d p = omega (

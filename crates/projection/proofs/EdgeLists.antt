@@ -14,8 +14,8 @@ use Rattle.rules.proofs.Indices.{by-index, indices-below}
 use Rattle.rules.proofs.Counts.{count-map}
 use Rattle.rules.proofs.Permutations.{keep-length}
 use Rattle.graph.specs.Adjacency.{chain, leaving, Indexed}
+use Rattle.graph.proofs.Chains.{chain-step, chain-end}
 use Rattle.laws.proofs.PositionEdges.{edgesBetween-length, edgesBetween-at, edgesBetween-sinks}
-use Rattle.projection.proofs.ListSteps.{chain-step, chain-end}
 
 module _ (sources sinks : List ℕ) (pairs : length sinks ≡ length sources) where
   abbrev es : List Edge

@@ -1,52 +1,24 @@
 -- The edges linked from a node, and those out of the retained nodes, listed one by one. Assumes nothing.
-use mathlib.Core.Bool.{Bool, true, false, not, cond}
-use mathlib.Core.List.{List, [], _∷_, _++_, map-id, flatMap, append-assoc, append-nil, List·Memᴰ, List·Memᴰ·not-nil, List·Memᴰ·cases-cons}
-use mathlib.Core.Path.{_≡_, refl, sym, ap, ap₂, _∙_}
-use mathlib.Core.Logic.{⊎-elim}
-use Prim.Native.Nat.{ℕ, zero, suc, _+_, _-_, _<_, _≤_}
+use mathlib.Core.Bool.{Bool, false, not}
+use mathlib.Core.List.{List, [], _∷_, _++_, flatMap, append-assoc, append-nil}
+use mathlib.Core.Path.{_≡_, refl, sym, ap, _∙_}
+use Prim.Native.Nat.{ℕ, suc, _+_, _<_, _≤_}
 use native.Mathlib.Decide.{decLe}
 use native.Mathlib.Numerals.{add-one}
 use native.Mathlib.Omega.{arith}
-use borrow.Author.Tests.{ltb-true, eq-eqb, ne-eqb, le-leb, lt-leb}
-use lib.Dec.{eqb, ltb, leb}
+use borrow.Author.Tests.{eq-eqb, ne-eqb, le-leb, lt-leb}
+use lib.Dec.{eqb, leb}
 use lib.ListN.{length, getD, set, take, drop, length-append, take-append-drop}
 use lib.Seq.{take-suc, take-length}
-use Rattle.rules.specs.Lists.{keep, indices}
-use Rattle.rules.proofs.Lists.{keep-append, map-same}
-use Rattle.rules.proofs.Indices.{indices-at}
+use Rattle.rules.specs.Lists.{keep}
+use Rattle.rules.proofs.Lists.{keep-append}
 use Rattle.rules.proofs.Written.{from-none, from-twice}
-use Rattle.graph.specs.Adjacency.{Rises, follow, chain, ends}
-use Rattle.graph.proofs.Chains.{passed-more, passed-all}
+use Rattle.graph.specs.Adjacency.{Rises, chain}
+use Rattle.graph.proofs.Chains.{chain-step, chain-end}
 use Rattle.projection.specs.Marking.{linked, through, firstsBy, Listable, RowWritten}
 use Rattle.projection.proofs.Rows.{flat-append, flat-more, from-length, from-at, at-any}
 
--- The chain of links: its first edge, and its end
-
-module _ (next : List ℕ) where
-  linked-below : (f e x : ℕ) → List·Memᴰ x (follow f next e) → x < length next
-  unfolding follow
-  linked-below zero e x m = absurd (List·Memᴰ·not-nil m)
-  linked-below (suc f) e x m = go (ltb e (length next)) refl (linked-below f (getD next e 0) x) m
-    where
-      go : (b : Bool) → ltb e (length next) ≡ b → (List·Memᴰ x (follow f next (getD next e 0)) → x < length next) → List·Memᴰ x (cond b (e ∷ follow f next (getD next e 0)) []) → x < length next
-      go true t ih k = ⊎-elim (λ q. omega (arith, q, ltb-true e (length next) t)) ih (List·Memᴰ·cases-cons k)
-      go false t ih k = absurd (List·Memᴰ·not-nil k)
-
-  -- the edges on a chain are where it leads, if each edge leads to its own number
-  own : (e : ℕ) → ends next (indices (length next)) e ≡ chain next e
-  unfolding ends chain
-  own e =
-      map-same (λ k. getD (indices (length next)) k 0) (λ k. k) (chain next e) (λ k m. indices-at (length next) k 0 (linked-below (length next - e) e k m))
-      ∙ map-id (chain next e)
-
-  pub chain-step : Rises next → (e : ℕ) → e < length next → chain next e ≡ e ∷ chain next (getD next e 0)
-  chain-step up e h =
-      sym (own e) ∙ sym (passed-more next (indices (length next)) [] e e refl up h) ∙ ap₂ (λ x l. x ∷ l) (indices-at (length next) e 0 h) (own (getD next e 0))
-
-  pub chain-end : (e : ℕ) → length next ≤ e → chain next e ≡ []
-  chain-end e h = sym (own e) ∙ sym (passed-all next (indices (length next)) [] e e refl h)
-
--- Whether it has one edge
+-- Whether a chain of links has one edge
 
 module _ (next : List ℕ) (up : Rises next) (e : ℕ) where
   pub one-linked : e < length next → leb (length next) (getD next e 0) ≡ eqb (length (chain next e)) 1

@@ -1,11 +1,11 @@
 -- Nodes as the components of a scene: what the laws say of its chains holds of chains through the nodes. Assumes nothing.
 use mathlib.Core.Bool.{Bool, true, false, not, cond, _&&_}
-use mathlib.Core.List.{List, [], _∷_, _++_, map, map-map, map-id, flatMap, List·Memᴰ, List·Memᴰ·head, List·Memᴰ·tail, Memᴰ·map, Memᴰ·cast}
+use mathlib.Core.List.{List, [], _∷_, _++_, map, map-map, map-id, flatMap, List·Memᴰ, List·Memᴰ·head, List·Memᴰ·tail, Memᴰ·map}
 use mathlib.Core.Path.{_≡_, refl, sym, ap, subst, _∙_, fun-ext}
-use Prim.Native.Nat.{ℕ, _+_, _*_, _≤_, _<_, zero-le}
+use Prim.Native.Nat.{ℕ, _+_, _*_, _≤_, _<_}
 use native.Mathlib.Decide.{decLt}
 use native.Mathlib.Omega.{arith}
-use lib.Dec.{T, T-not, not-T, eqb, eqb→eq, eqb-refl}
+use lib.Dec.{T, T-not, eqb, eqb→eq, eqb-refl}
 use lib.IntN.{pos}
 use lib.ListN.{length, length-append}
 use Rattle.rules.specs.Lists.{keep, count, indices}
@@ -18,33 +18,12 @@ use Rattle.rules.proofs.Lists.{and-left, and-both, same-test, eq-test, keep-out
 use Rattle.rules.proofs.Distinct.{Distinct, distinct-append}
 use Rattle.rules.proofs.Indices.{from-distinct, below-indices}
 use Rattle.rules.proofs.Permutations.{keep-length}
-use Rattle.rules.proofs.Counts.{count-append, count-every, count-keep, count-under, count-split, count-none, Once, distinct-keep, distinct-flat}
+use Rattle.rules.proofs.Counts.{count-every, count-none, Once, distinct-keep, distinct-flat}
 use Rattle.rules.proofs.Scenes.{DistinctIds, row-at}
 use Rattle.rules.proofs.Acceptance.{distinct→ids}
 use Rattle.laws.proofs.Chains.{inner, compressed-in, chain-length, chain-inner, chain-enters, inner-once, chain-apart, chain-ends}
+use Rattle.laws.proofs.Projection.{rows-count}
 use Rattle.projection.proofs.Rows.{flat-append}
-
--- the edges out of distinct nodes, one node after the other: no edge stands there more often than in the list of edges
-rows-count : (es : List Edge) (vs : List ℕ) → Distinct vs → (p : Edge → Bool) → count p (flatMap (λ v. keep (startsAt v) es) vs) ≤ count p es
-unfolding flatMap count
-rows-count es [] d p = zero-le
-rows-count es (v ∷ vs) d p = omega (
-  arith,
-  count-append p (keep (startsAt v) es) rest,
-  count-keep p (startsAt v) es,
-  count-under p (λ e. not (startsAt v e) && p e) rest other,
-  rows-count es vs (d .1) (λ e. not (startsAt v e) && p e),
-  count-split (startsAt v) p es,
-)
-  where
-    rest : List Edge
-    rest = flatMap (λ v. keep (startsAt v) es) vs
-
-    other : (e : Edge) → List·Memᴰ e rest → T (p e) → T (not (startsAt v e) && p e)
-    other e m t =
-        let r = flat-out (λ v. keep (startsAt v) es) vs m in
-        let w = eqb→eq (sourceOf e) (r .0) (keep-out (startsAt (r .0)) es (r .2) .1) in
-        and-both (not (startsAt v e)) (p e) (not-T (startsAt v e) (λ s. d .0 (Memᴰ·cast (sym (eqb→eq (sourceOf e) v s) ∙ w) (r .1)))) t
 
 module _ (es : List Edge) (n : ℕ) (inside : Inside n es) (through : ℕ → Bool) (one-in : (v : ℕ) → T (through v) → inCount es v ≡ 1) (one-out : (v : ℕ) → T (through v) → outCount es v ≡ 1) where
   -- a node that chains go through is a wire, another a lever

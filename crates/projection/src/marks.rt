@@ -3,32 +3,22 @@ ghost use mathlib.Core.Path.{_≡_};
 ghost use mathlib.Core.Bool.{cond, not, _&&_};
 ghost use Prim.Native.Nat.{_<_};
 ghost use lib.Dec.{eqb};
-ghost use lib.ListN.{length, replicate};
+ghost use lib.ListN.{length};
 ghost use Rattle.graph.specs.Adjacency.{Below, Rises};
 ghost use Rattle.projection.specs.Marking.{EndsCounted, linked, Markable, Marked};
+use graph::set_all::set_all;
 
 // Counts how often each node is an end.
 pub(crate) fn count_ends(ends: &[usize], counts: &mut [usize])
     requires { ⌜ Below (length (now counts)) (now ends) ⌝ }
     ensures { λ _. ⌜ EndsCounted (now (ends .entry)) (now (counts .exit)) ⌝ }
 {
-    clear(counts);
+    set_all(0, counts);
     let mut e = 0;
     while e < ends.len() {
         let v = ends[e];
         counts[v] = counts[v] + 1;
         e += 1;
-    }
-}
-
-// Sets every count to 0.
-fn clear(counts: &mut [usize])
-    ensures { λ _. ⌜ now (counts .exit) ≡ replicate (length (now (counts .entry))) 0 ⌝ }
-{
-    let mut v = 0;
-    while v < counts.len() {
-        counts[v] = 0;
-        v += 1;
     }
 }
 

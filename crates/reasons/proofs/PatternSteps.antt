@@ -15,8 +15,6 @@ use Rattle.rules.specs.Scene.{ComponentLists, componentAt, componentsOf, rowOf}
 use Rattle.rules.specs.Reasons.{Reason, passive, isInverter}
 use Rattle.rules.specs.declared.answers.TemporalScope.the-variants.{SteadyStateSafe, TimingSensitive, TemporalRequired}
 use Rattle.rules.specs.declared.kinds.TemporalNodeKind.{TemporalNodeKind}
-use Rattle.rules.specs.declared.kinds.TemporalSemantics.{TemporalSemantics}
-use Rattle.rules.specs.declared.kinds.DeviceMeaning.the-variants.{NoDevice, Device}
 use Rattle.rules.specs.declared.answers.BehaviorPattern.{BehaviorPattern}
 use Rattle.rules.specs.declared.answers.BehaviorPattern.the-variants.{DelayedPath, ClockCandidate, LatchCandidate, Nothing}
 use Rattle.rules.proofs.Lists.{any-in, any-out, any-same, any-map, same-test}
@@ -77,15 +75,7 @@ pub pattern-marked : (ids kinds starts stops marks : List ℕ) (listed : ℕ) {p
 unfolding sharedPattern
 pattern-marked ids kinds starts stops marks listed e m c p = p ∙ front-marks kinds marks listed ∙ ap₂ (markedPattern kinds) (ap (λ n. take n marks) e ∙ m) c
 
--- kinds as the kind table tells them
-pub no-device : (kind : ℕ) → kindRow kind .meaning ≡ NoDevice → false ≡ isDevice (kindRow kind)
-unfolding isDevice
-no-device kind e = rw e
-
-pub some-device : (kind : ℕ) (s : TemporalSemantics) → kindRow kind .meaning ≡ Device s → true ≡ isDevice (kindRow kind)
-unfolding isDevice
-some-device kind s e = rw e
-
+-- a kind as the kind table tells it
 pub inverter-by : (kind : ℕ) (node : TemporalNodeKind) → kindRow kind .node ≡ node → isInverter node ≡ isInverter (kindRow kind .node)
 inverter-by kind node e = sym (ap isInverter e)
 

@@ -4,14 +4,14 @@ ghost use mathlib.Core.Bool.{not, _&&_};
 ghost use Prim.Native.Nat.{_≤_};
 ghost use lib.Dec.{eqb};
 ghost use lib.ListN.{length};
-ghost use Rattle.rules.specs.Kinds.{kindRow, isDevice};
+ghost use Rattle.rules.specs.Kinds.{kindRow};
 ghost use Rattle.rules.specs.Lists.{any, indices};
 ghost use Rattle.rules.specs.Reasons.{passive, isInverter};
 ghost use Rattle.reasons.specs.Pattern.{markedPattern, isListedInverter, deviceAt};
 use crate::feedback::is_listed;
 use rules::answers::BehaviorPattern;
-use rules::kinds::DeviceMeaning;
 use rules::kinds::TemporalNodeKind;
+use tables::kinds::is_device;
 use tables::kinds::kind_row;
 
 // The pattern, where so many components are listed by their marks.
@@ -92,15 +92,4 @@ fn any_device(kinds: &[u8]) -> bool
         i += 1;
     }
     false
-}
-
-fn is_device(kind: u8) -> bool
-    ensures { λ r. ⌜ r ≡ isDevice (kindRow kind) ⌝ }
-{
-    let row = kind_row(kind);
-    let meaning = row.meaning;
-    match meaning {
-        DeviceMeaning::NoDevice => false,
-        DeviceMeaning::Device(semantics) => true,
-    }
 }

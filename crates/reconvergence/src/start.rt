@@ -3,6 +3,7 @@ ghost use mathlib.Core.Path.{_≡_};
 ghost use lib.ListN.{length, replicate};
 ghost use Rattle.graph.specs.Adjacency.{Below};
 ghost use Rattle.reconvergence.specs.Pass.{Counted, Waiting, Started, Lent};
+use graph::set_all::set_all;
 
 // Fills the lists and answers how many nodes wait in queue.
 pub(crate) fn start(
@@ -16,21 +17,11 @@ pub(crate) fn start(
     requires { ⌜ Below (length (now incoming)) (now sinks) × Lent (length (now incoming)) (now incoming) (now left) (now smallest) (now largest) (now queue) ⌝ }
     ensures { λ r. ⌜ Started (now (sinks .entry)) (now (incoming .exit)) (now (left .exit)) (now (smallest .exit)) (now (largest .exit)) (now (queue .exit)) r ⌝ }
 {
-    clear(incoming);
+    set_all(0, incoming);
     count_incoming(sinks, incoming);
     clear_sums(smallest);
     clear_sums(largest);
     list_ready(incoming, left, queue)
-}
-
-fn clear(counts: &mut [usize])
-    ensures { λ _. ⌜ now (counts .exit) ≡ replicate (length (now (counts .entry))) 0 ⌝ }
-{
-    let mut v = 0;
-    while v < counts.len() {
-        counts[v] = 0;
-        v += 1;
-    }
 }
 
 fn clear_sums(sums: &mut [u32])

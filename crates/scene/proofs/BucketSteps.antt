@@ -51,7 +51,7 @@ module _ (ids order head next : List ℕ) (i : IdIndex ids order head next) (id 
   pub ahead-more : (e : ℕ) → e < length next → (keyAt ids e ≡ id → ⊥) → Ahead e → Ahead (getD next e 0)
   ahead-more e h n a p k q =
       ⊎-elim (λ s. absurd (n (ap (keyAt ids) (sym s) ∙ q))) (λ r. r)
-      (List·Memᴰ·cases-cons (subst (List·Memᴰ p) (chain-step next 0 (λ j l b. i .linked .rises j b) e (omega arith) h) (a p k q)))
+      (List·Memᴰ·cases-cons (subst (List·Memᴰ p) (chain-step next (i .linked .rises) e h) (a p k q)))
 
   pub found-here : (e : ℕ) → e < length next → keyAt ids e ≡ id → Ahead e → At e ≡ positionOf ids id
   unfolding chain

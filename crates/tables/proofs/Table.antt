@@ -10,7 +10,9 @@ use Rattle.rules.specs.Kinds.{kindTable, kindRow, conductor, delayBy, component
 use Rattle.rules.specs.Codes.{semanticsCode}
 use Rattle.rules.specs.Describe.{meaningCode}
 use Rattle.rules.specs.Scene.{Component, rowOf, delayOf}
+use Rattle.rules.specs.declared.kinds.EdgeTiming.{EdgeTiming}
 use Rattle.rules.specs.declared.kinds.KindRow.{KindRow}
+use Rattle.rules.specs.declared.kinds.KindDelay.{KindDelay}
 use Rattle.rules.specs.declared.kinds.KindDelay.the-variants.{Fixed, Own}
 use Rattle.rules.specs.declared.kinds.TemporalSemantics.{TemporalSemantics}
 use Rattle.rules.specs.declared.kinds.DeviceMeaning.the-variants.{NoDevice, Device}
@@ -30,18 +32,27 @@ unfolding kindRow
 row-past code h = sym (List·getD-eq-default kindTable conductor h)
 
 -- a delay by what the row says
-module _ (code word ticks : ℕ) where
-  pub delay-fixed : kindRow code .delay ≡ Fixed ticks → ticks ≡ componentDelay code word
-  unfolding componentDelay delayBy
+module _ (delay : KindDelay) (word ticks : ℕ) where
+  pub delay-fixed : delay ≡ Fixed ticks → ticks ≡ delayBy delay word
+  unfolding delayBy
   delay-fixed e = sym (ap (λ k. delayBy k word) e)
 
-  pub delay-own : kindRow code .delay ≡ Own ticks → word < 256 → word ≡ componentDelay code word
-  unfolding componentDelay delayBy
+  pub delay-own : delay ≡ Own ticks → word < 256 → word ≡ delayBy delay word
+  unfolding delayBy
   delay-own e h = sym (ap (λ k. delayBy k word) e ∙ rw (lt-ltb word 256 h))
 
-  pub delay-absent : kindRow code .delay ≡ Own ticks → 256 ≤ word → ticks ≡ componentDelay code word
-  unfolding componentDelay delayBy
+  pub delay-absent : delay ≡ Own ticks → 256 ≤ word → ticks ≡ delayBy delay word
+  unfolding delayBy
   delay-absent e h = sym (ap (λ k. delayBy k word) e ∙ rw (le-ltb word 256 h))
+
+-- and by the row of a code
+pub delay-of-row : (row : KindRow) (code word r : ℕ) → row ≡ kindRow code → r ≡ delayBy (row .delay) word → r ≡ componentDelay code word
+unfolding componentDelay
+delay-of-row row code word r e q = q ∙ ap (λ (k : KindRow). delayBy (k .delay) word) e
+
+pub timing-of-row : (row : KindRow) (code word r : ℕ) → row ≡ kindRow code → r ≡ delayBy (row .delay) word
+    → _≡_ {A = EdgeTiming} (record { delay = record { «minimum_redstone_ticks» = r; «maximum_redstone_ticks» = r }; behavior = row .behavior }) (edgeTiming code word)
+timing-of-row row code word r e q = cc (delay-of-row row code word r e q, e)
 
 -- an edge's timing by its source's codes is by the source's row and delay
 pub edge-timing-of : (c : Component) → edgeTiming (c .kind) (c .delay) ≡ record { delay = record { «minimum_redstone_ticks» = delayOf c; «maximum_redstone_ticks» = delayOf c }; behavior = rowOf c .behavior }

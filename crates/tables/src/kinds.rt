@@ -1,6 +1,6 @@
 // The kind table: what each block kind is in the timing analysis.
 ghost use mathlib.Core.Path.{_≡_};
-ghost use Rattle.rules.specs.Kinds.{kindRow, componentDelay, edgeTiming, isDevice};
+ghost use Rattle.rules.specs.Kinds.{kindRow, delayBy, componentDelay, edgeTiming, isDevice};
 ghost use Rattle.rules.specs.Describe.{meaningCode};
 use crate::codes::semantics_code;
 use rules::delay::DelayRange;
@@ -87,16 +87,23 @@ pub fn kind_row(code: u8) -> KindRow
     if i < 13 { KINDS[i] } else { CONDUCTOR }
 }
 
+// The delay by what a row says and a delay word.
+pub fn delay_by(delay: KindDelay, word: u16) -> u32
+    ensures { λ r. ⌜ r ≡ delayBy delay word ⌝ }
+{
+    match delay {
+        KindDelay::Fixed(ticks) => ticks,
+        KindDelay::Own(absent) => if word < 256 { word as u32 } else { absent },
+    }
+}
+
 // The delay of a component by its kind code and its delay word.
 pub fn component_delay(code: u8, word: u16) -> u32
     ensures { λ r. ⌜ r ≡ componentDelay code word ⌝ }
 {
     let row = kind_row(code);
     let delay = row.delay;
-    match delay {
-        KindDelay::Fixed(ticks) => ticks,
-        KindDelay::Own(absent) => if word < 256 { word as u32 } else { absent },
-    }
+    delay_by(delay, word)
 }
 
 // What an edge takes from its source.
@@ -104,8 +111,9 @@ pub fn edge_timing(code: u8, word: u16) -> EdgeTiming
     ensures { λ r. ⌜ r ≡ edgeTiming code word ⌝ }
 {
     let row = kind_row(code);
+    let delay = row.delay;
     let behavior = row.behavior;
-    let ticks = component_delay(code, word);
+    let ticks = delay_by(delay, word);
     EdgeTiming {
         delay: DelayRange {
             minimum_redstone_ticks: ticks,

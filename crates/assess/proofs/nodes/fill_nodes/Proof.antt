@@ -8,7 +8,8 @@ use Rattle.rules.specs.Kinds.{kindRow, componentDelay}
 use Rattle.rules.specs.Ordered.{keyAt}
 use Rattle.rules.specs.Projection.{isDelayedInvert, compressibleKind}
 use Rattle.rules.proofs.Made.{Made, made-none, made-more}
-use Rattle.assess.proofs.NodeSteps.{delays-made, inverts-made, compressible-made}
+use Rattle.tables.proofs.Table.{delay-of-row}
+use Rattle.assess.proofs.NodeSteps.{inverts-of-row, compressible-of-row, delays-made, inverts-made, compressible-made}
 use Rattle.assess.proofs.nodes.fill_nodes.Statement.{statement}
 use Rattle.assess.proofs.nodes.fill_nodes.Tie as tie
 
@@ -21,35 +22,38 @@ abbrev μ-loop : tie.MeasureT-loop
 loop-holds : tie.Need-loop-holds Inv-loop μ-loop
 loop-holds c = (omega arith, made-none _ 0 _, made-none _ 0 _, made-none _ 0 _)
 
-shared-slice-read-kind : tie.Need-shared-slice-read-kind Inv-loop μ-loop
-shared-slice-read-kind c = search needs
+shared-slice-read-kind-row : tie.Need-shared-slice-read-kind-row Inv-loop μ-loop
+shared-slice-read-kind-row c = search needs
 
-mul-component-delay : tie.Need-mul-component-delay Inv-loop μ-loop
-mul-component-delay c = omega (arith, c .before .before .before .before .before .before .before .before .pre .delays-length)
+kind-row-requires : tie.Need-kind-row-requires Inv-loop μ-loop
+kind-row-requires c κs = search needs
 
-shared-slice-read-component-delay : tie.Need-shared-slice-read-component-delay Inv-loop μ-loop
-shared-slice-read-component-delay c = omega (arith, c .before .before .before .before .before .before .before .before .before .pre .delays-length)
+mul-delay-by : tie.Need-mul-delay-by Inv-loop μ-loop
+mul-delay-by c = omega (arith, c .before .before .before .before .before .before .before .before .before .pre .delays-length)
 
-component-delay-requires : tie.Need-component-delay-requires Inv-loop μ-loop
-component-delay-requires c κs = search needs
+shared-slice-read-delay-by : tie.Need-shared-slice-read-delay-by Inv-loop μ-loop
+shared-slice-read-delay-by c = omega (arith, c .before .before .before .before .before .before .before .before .before .before .pre .delays-length)
+
+delay-by-requires : tie.Need-delay-by-requires Inv-loop μ-loop
+delay-by-requires c κs = search needs
 
 mul-low : tie.Need-mul-low Inv-loop μ-loop
-mul-low c = omega (arith, c .before .before .before .before .loop .inv .1 .size, c .before .before .before .before .before .before .before .before .before .before .pre .low-room)
+mul-low c = omega (arith, c .before .before .before .before .before .loop .inv .1 .size, c .before .before .before .before .before .before .before .before .before .before .before .pre .low-room)
 
 slice-write-low : tie.Need-slice-write-low Inv-loop μ-loop
-slice-write-low c = omega (arith, c .before .before .before .before .loop .inv .1 .size, c .before .before .before .before .before .before .before .before .before .before .pre .low-room)
+slice-write-low c = omega (arith, c .before .before .before .before .before .loop .inv .1 .size, c .before .before .before .before .before .before .before .before .before .before .before .pre .low-room)
 
-inverts-from-requires : tie.Need-inverts-from-requires Inv-loop μ-loop
-inverts-from-requires c κs = search needs
+inverts-by-requires : tie.Need-inverts-by-requires Inv-loop μ-loop
+inverts-by-requires c κs = search needs
 
 slice-write-inverts : tie.Need-slice-write-inverts Inv-loop μ-loop
-slice-write-inverts c = omega (arith, c .before .before .before .before .before .loop .inv .2 .size, c .before .before .before .before .before .before .before .before .before .before .before .pre .inverts-room)
+slice-write-inverts c = omega (arith, c .before .before .before .before .before .before .loop .inv .2 .size, c .before .before .before .before .before .before .before .before .before .before .before .before .pre .inverts-room)
 
 is-compressible-requires : tie.Need-is-compressible-requires Inv-loop μ-loop
 is-compressible-requires c κs = search needs
 
 slice-write-compressible : tie.Need-slice-write-compressible Inv-loop μ-loop
-slice-write-compressible c = omega (arith, c .before .before .before .before .before .before .loop .inv .3 .size, c .before .before .before .before .before .before .before .before .before .before .before .before .pre .compressible-room)
+slice-write-compressible c = omega (arith, c .before .before .before .before .before .before .before .loop .inv .3 .size, c .before .before .before .before .before .before .before .before .before .before .before .before .before .pre .compressible-room)
 
 add-i : tie.Need-add-i Inv-loop μ-loop
 add-i c = search needs
@@ -58,7 +62,7 @@ loop-less : tie.Need-loop-less Inv-loop μ-loop
 loop-less c = search needs
 
 loop-again : tie.Need-loop-again Inv-loop μ-loop
-loop-again c = (omega arith, made-more _ 0 _ (c .before .before .before .before .before .before .loop .i) (c .before .before .before .before .before .before .loop .i) _ _ (omega arith) (omega (arith, c .before .before .before .before .before .before .before .before .before .before .before .before .pre .low-room)) (c .before .before .component-delay .ensures) (c .before .before .before .before .before .before .loop .inv .1), made-more _ 0 _ (c .before .before .before .before .before .before .loop .i) (c .before .before .before .before .before .before .loop .i) _ _ (omega arith) (omega (arith, c .before .before .before .before .before .before .before .before .before .before .before .before .pre .inverts-room)) (c .before .inverts-from .ensures) (c .before .before .before .before .before .before .loop .inv .2), made-more _ 0 _ (c .before .before .before .before .before .before .loop .i) (c .before .before .before .before .before .before .loop .i) _ _ (omega arith) (omega (arith, c .before .before .before .before .before .before .before .before .before .before .before .before .pre .compressible-room)) (c .is-compressible .ensures) (c .before .before .before .before .before .before .loop .inv .3))
+loop-again c = (omega arith, made-more _ 0 _ (c .before .before .before .before .before .before .before .loop .i) (c .before .before .before .before .before .before .before .loop .i) _ _ (omega arith) (omega (arith, c .before .before .before .before .before .before .before .before .before .before .before .before .before .pre .low-room)) (delay-of-row _ _ _ _ (c .before .before .before .before .kind-row .ensures) (c .before .before .delay-by .ensures)) (c .before .before .before .before .before .before .before .loop .inv .1), made-more _ 0 _ (c .before .before .before .before .before .before .before .loop .i) (c .before .before .before .before .before .before .before .loop .i) _ _ (omega arith) (omega (arith, c .before .before .before .before .before .before .before .before .before .before .before .before .before .pre .inverts-room)) (inverts-of-row _ _ _ (c .before .before .before .before .kind-row .ensures) (c .before .inverts-by .ensures)) (c .before .before .before .before .before .before .before .loop .inv .2), made-more _ 0 _ (c .before .before .before .before .before .before .before .loop .i) (c .before .before .before .before .before .before .before .loop .i) _ _ (omega arith) (omega (arith, c .before .before .before .before .before .before .before .before .before .before .before .before .before .pre .compressible-room)) (compressible-of-row _ _ _ (c .before .before .before .before .kind-row .ensures) (c .is-compressible .ensures)) (c .before .before .before .before .before .before .before .loop .inv .3))
 
 same-length : tie.Need-same-length Inv-loop μ-loop
 same-length c = c .before .loop .inv .1 .size
@@ -79,13 +83,14 @@ fill-nodes-spec =
     Inv-loop
     μ-loop
     loop-holds
-    shared-slice-read-kind
-    mul-component-delay
-    shared-slice-read-component-delay
-    component-delay-requires
+    shared-slice-read-kind-row
+    kind-row-requires
+    mul-delay-by
+    shared-slice-read-delay-by
+    delay-by-requires
     mul-low
     slice-write-low
-    inverts-from-requires
+    inverts-by-requires
     slice-write-inverts
     is-compressible-requires
     slice-write-compressible

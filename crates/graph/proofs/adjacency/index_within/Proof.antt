@@ -3,12 +3,12 @@ use borrow.Author.Needs.{needs}
 use Rattle.graph.proofs.adjacency.index_within.Statement.{statement}
 use Rattle.graph.proofs.adjacency.index_within.Tie as tie
 
-clear-heads-requires : tie.Need-clear-heads-requires
-clear-heads-requires c κs = search needs
+set-all-requires : tie.Need-set-all-requires
+set-all-requires c κs = search needs
 
 link-edges-requires : tie.Need-link-edges-requires
 link-edges-requires c κs =
-    let k = c .before .before .before .before .clear-heads in
+    let k = c .before .before .before .before .set-all in
     (c .before .before .before .before .before .before .before .before .before .pre .0, λ e h. rw (k .kept .1 .0) (c .before .before .before .before .before .before .before .before .before .pre .1 e h), rw (k .kept .1 .0) (k .ensures))
 
 same-length : tie.Need-same-length
@@ -22,4 +22,4 @@ returns c = search needs
 
 pub index-within-spec : {M : Type 1} → statement M
 index-within-spec =
-    tie.close (tie.spec clear-heads-requires link-edges-requires same-length same-length-2 returns)
+    tie.close (tie.spec set-all-requires link-edges-requires same-length same-length-2 returns)

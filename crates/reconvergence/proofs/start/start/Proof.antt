@@ -7,11 +7,11 @@ use borrow.Author.Needs.{needs}
 use Rattle.reconvergence.proofs.start.start.Statement.{statement}
 use Rattle.reconvergence.proofs.start.start.Tie as tie
 
-clear-requires : tie.Need-clear-requires
-clear-requires c κs = search needs
+set-all-requires : tie.Need-set-all-requires
+set-all-requires c κs = search needs
 
 count-incoming-requires : tie.Need-count-incoming-requires
-count-incoming-requires c κs = (λ k h. omega (arith, c .before .before .before .before .before .before .before .before .before .before .before .pre .0 k h, c .before .before .before .clear .kept .0), c .before .before .before .clear .ensures ∙ ap (λ (n : ℕ). replicate {A = ℕ} n 0) (sym (c .before .before .before .clear .kept .0)))
+count-incoming-requires c κs = (λ k h. omega (arith, c .before .before .before .before .before .before .before .before .before .before .before .pre .0 k h, c .before .before .before .set-all .kept .1 .0), c .before .before .before .set-all .ensures ∙ ap (λ (n : ℕ). replicate {A = ℕ} n 0) (sym (c .before .before .before .set-all .kept .1 .0)))
 
 clear-sums-requires : tie.Need-clear-sums-requires
 clear-sums-requires c κs = search needs
@@ -41,8 +41,8 @@ returns : tie.Need-returns
 returns c = record {
   counted = c .before .before .before .before .before .before .before .before .before .before .before .before .before .before .before .before .before .before .count-incoming .ensures;
   lefts = c .before .before .before .before .list-ready .ensures .0;
-  smallests = c .before .before .before .before .before .before .before .before .before .before .before .before .before .before .clear-sums .ensures ∙ ap (λ (n : ℕ). replicate {A = ℕ} n 0) (c .before .before .before .before .before .before .before .before .before .before .before .before .before .before .before .before .before .before .before .before .before .before .before .before .before .before .before .before .before .before .pre .1 .smallests ∙ sym (c .before .before .before .before .before .before .before .before .before .before .before .before .before .before .before .before .before .before .count-incoming .kept .1 .0 ∙ c .before .before .before .before .before .before .before .before .before .before .before .before .before .before .before .before .before .before .before .before .before .before .clear .kept .0));
-  largests = c .before .before .before .before .before .before .before .before .before .before .clear-sums2 .ensures ∙ ap (λ (n : ℕ). replicate {A = ℕ} n 0) (c .before .before .before .before .before .before .before .before .before .before .before .before .before .before .before .before .before .before .before .before .before .before .before .before .before .before .before .before .before .before .pre .1 .largests ∙ sym (c .before .before .before .before .before .before .before .before .before .before .before .before .before .before .before .before .before .before .count-incoming .kept .1 .0 ∙ c .before .before .before .before .before .before .before .before .before .before .before .before .before .before .before .before .before .before .before .before .before .before .clear .kept .0));
+  smallests = c .before .before .before .before .before .before .before .before .before .before .before .before .before .before .clear-sums .ensures ∙ ap (λ (n : ℕ). replicate {A = ℕ} n 0) (c .before .before .before .before .before .before .before .before .before .before .before .before .before .before .before .before .before .before .before .before .before .before .before .before .before .before .before .before .before .before .pre .1 .smallests ∙ sym (c .before .before .before .before .before .before .before .before .before .before .before .before .before .before .before .before .before .before .count-incoming .kept .1 .0 ∙ c .before .before .before .before .before .before .before .before .before .before .before .before .before .before .before .before .before .before .before .before .before .before .set-all .kept .1 .0));
+  largests = c .before .before .before .before .before .before .before .before .before .before .clear-sums2 .ensures ∙ ap (λ (n : ℕ). replicate {A = ℕ} n 0) (c .before .before .before .before .before .before .before .before .before .before .before .before .before .before .before .before .before .before .before .before .before .before .before .before .before .before .before .before .before .before .pre .1 .largests ∙ sym (c .before .before .before .before .before .before .before .before .before .before .before .before .before .before .before .before .before .before .count-incoming .kept .1 .0 ∙ c .before .before .before .before .before .before .before .before .before .before .before .before .before .before .before .before .before .before .before .before .before .before .set-all .kept .1 .0));
   waiting = c .before .before .before .before .list-ready .ensures .1;
 }
 
@@ -50,7 +50,7 @@ pub start-spec : {M : Type 1} → statement M
 start-spec =
     tie.close
     (tie.spec
-    clear-requires
+    set-all-requires
     count-incoming-requires
     clear-sums-requires
     clear-sums-requires-2
