@@ -33,7 +33,8 @@ fn positions_fit(orders: usize, starts: usize, stops: usize) -> bool
 // Tests a scene in document 01's order, with the output lists from the list of number first on, of which room has
 // the shortest lengths. Where it is accepted, order begins with the ordered positions of the ids, and starts and
 // stops begin with the positions of the edges' ends. What the three lists hold beside that, or under a refusal, is
-// open; where one is too short for the limits, they keep their contents.
+// open, and so is the number of edges under a refusal of the checks; where a list is too short for the limits, all
+// three keep their contents.
 pub fn scene_positions(
     ids: &[u64],
     kinds: &[u8],
