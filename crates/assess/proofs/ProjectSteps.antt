@@ -8,15 +8,11 @@ use lib.ListN.{length, take}
 use lib.Seq.{take-at, length-take-le}
 use Rattle.rules.specs.Lists.{written}
 use Rattle.rules.proofs.Indices.{made-length}
-use Rattle.rules.proofs.Written.{written-parts}
+use Rattle.rules.proofs.Written.{written-front}
 use Rattle.projection.specs.declared.Projected.{Projected}
 use Rattle.projection.specs.Projecting.{ProjectedLists, nodeLists, workLists, projectionFits, Projecting}
 use Rattle.projection.proofs.FitSteps.{fitting}
 use Rattle.assess.specs.Nodes.{delaysOf, invertsOf, compressibleOf, NodeRoom, NodesLent, ProjectionReady, WorkRoom}
-
--- the front of a list is what was written there
-front-of : (old new now : List ℕ) (n : ℕ) → now ≡ written old new → length new ≡ n → take n now ≡ new
-front-of old new now n e h = ap (take n) (e ∙ written-parts old new) ∙ take-at new _ n h
 
 delays-length : (kinds delays : List ℕ) → length (delaysOf kinds delays) ≡ length kinds
 unfolding delaysOf
@@ -45,13 +41,13 @@ module _ {ids kinds delays starts stops : List ℕ} {edges : ℕ} {order marks :
       (filled : (low′ ≡ written low (delaysOf kinds delays)) × ((inverts′ ≡ written inverts (invertsOf kinds)) × (compressible′ ≡ written compressible (compressibleOf kinds))))
       (low-kept : length low′ ≡ length low) (inverts-kept : length inverts′ ≡ length inverts) (compressible-kept : length compressible′ ≡ length compressible) where
     low-front : take (length ids) low′ ≡ delaysOf kinds delays
-    low-front = front-of low (delaysOf kinds delays) low′ (length ids) (filled .0) (delays-length kinds delays ∙ ready .kinds-length)
+    low-front = ap (take (length ids)) (filled .0) ∙ written-front low (delaysOf kinds delays) (length ids) (delays-length kinds delays ∙ ready .kinds-length)
 
     inverts-front : take (length ids) inverts′ ≡ invertsOf kinds
-    inverts-front = front-of inverts (invertsOf kinds) inverts′ (length ids) (filled .1 .0) (inverts-length kinds ∙ ready .kinds-length)
+    inverts-front = ap (take (length ids)) (filled .1 .0) ∙ written-front inverts (invertsOf kinds) (length ids) (inverts-length kinds ∙ ready .kinds-length)
 
     compressible-front : take (length ids) compressible′ ≡ compressibleOf kinds
-    compressible-front = front-of compressible (compressibleOf kinds) compressible′ (length ids) (filled .1 .1) (compressible-length kinds ∙ ready .kinds-length)
+    compressible-front = ap (take (length ids)) (filled .1 .1) ∙ written-front compressible (compressibleOf kinds) (length ids) (compressible-length kinds ∙ ready .kinds-length)
 
     pub nodes-lent : NodesLent (length ids) edges starts stops order low′ inverts′ compressible′
     nodes-lent = record {

@@ -29,18 +29,6 @@ flag-set : (b : Bool) → b ≡ not (eqb (cond b 1 0) 0)
 flag-set true = refl
 flag-set false = refl
 
-module _ {A : Type 0} (f : A → Bool) where
-  -- of all entries, those that pass and those that don't
-  pub count-both : (l : List A) → count f l + count (λ x. not (f x)) l ≡ length l
-  unfolding count
-  count-both [] = refl
-  count-both (x ∷ l) = go (f x) (count-both l)
-    where
-      go : (b : Bool) → count f l + count (λ y. not (f y)) l ≡ length l
-          → cond b (suc (count f l)) (count f l) + cond (not b) (suc (count (λ y. not (f y)) l)) (count (λ y. not (f y)) l) ≡ suc (length l)
-      go true e = omega arith
-      go false e = omega arith
-
 module _ (l : ComponentLists) (distinct : Distinct (l .ids)) (same : length (l .kinds) ≡ length (l .ids)) (es positions : List Edge) (at : Positioned (l .ids) es positions) where
   may-compress : (i : ℕ) → i < length (l .ids) → compressibleKind (rowOf (componentAt l i) .node) ≡ not (eqb (keyAt (compressibleOf (l .kinds)) i) 0)
   unfolding compressibleOf componentAt rowOf

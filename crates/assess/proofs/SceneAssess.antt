@@ -14,12 +14,13 @@ use Rattle.rules.specs.Labels.{settledFlag, lowSum, highSum}
 use Rattle.rules.specs.Reasons.{reasonKind, reasonComponent, reasonBlock, reasonMinimum, reasonMaximum}
 use Rattle.rules.specs.Projection.{compressed, pathIds, pathStarts, pathLength}
 use Rattle.rules.specs.Refusals.{sceneLimits, roomOutputs, shortest}
-use Rattle.rules.specs.Assess.{assessOutputs, checkAssess, assessment, AssessLists, assessChecked, AssessedBy, AssessCall}
+use Rattle.rules.specs.Assess.{sceneAnswer, sceneNumbers, assessOutputs, checkAssess, assessment, AssessLists, assessChecked, AssessedBy, AssessCall}
 use Rattle.rules.specs.declared.answers.Checked.{Checked}
 use Rattle.rules.specs.declared.answers.Checked.the-variants.{Accepted, Refused}
 use Rattle.rules.specs.declared.answers.SceneAnswer.{SceneAnswer}
 use Rattle.rules.specs.declared.answers.SceneAnswer.the-variants as Answer
 use Rattle.rules.proofs.Acceptance.{AcceptedScene, accepted→}
+use Rattle.rules.proofs.Counts.{count-both}
 use Rattle.rules.proofs.Columns.{components-length}
 use Rattle.rules.proofs.Ordering.{ordered-below, ordered-length}
 use Rattle.rules.proofs.Shortest.{EachListed, shortest-assess}
@@ -37,7 +38,7 @@ use Rattle.scene.specs.ScenePositions.{ScenePositioned, Tested}
 use Rattle.scene.proofs.PositionSteps.{room-fits}
 use Rattle.assess.specs.Answer.{assessedOf}
 use Rattle.assess.specs.Nodes.{delaysOf, invertsOf, compressibleOf, PositionsLent, ProjectionReady}
-use Rattle.assess.proofs.ProjectedByIds.{count-both, marks-by-ids, entries-by-ids, retained-by-ids}
+use Rattle.assess.proofs.ProjectedByIds.{marks-by-ids, entries-by-ids, retained-by-ids}
 use Rattle.assess.proofs.Rising.{ids-rise}
 
 -- the scene tested by the shortest lengths
@@ -49,13 +50,14 @@ tested l m l3 l6 l8 n4 n5 n7 order starts stops order′ starts′ stops′ room
     let i = s .indexed (s .answer ∙ room-fits order starts stops fits) in
     record {
       answer = i .answer ∙ cc (e3, e6, e8) ∙ sym (shortest-assess sceneLimits l m l3 (n4 ∷ []) (n5 ∷ []) l6 (n7 ∷ []) l8 (listed .0, (tt, (tt, (listed .1 .0, (tt, (listed .1 .1 .0, tt)))))));
-      accepted = i .accepted;
+      accepted = i .positions;
     }
 
 module _ (l : ComponentLists) (m : ConnectionLists) (old : AssessLists) where
   pub call-refused : (number place : ℕ) → Refused number place ≡ assessChecked sceneLimits l m old → AssessCall sceneLimits l m old old (Answer.Refused number place)
   call-refused number place e = subst (λ c. AssessedBy c (sceneOf l m) old old (Answer.Refused number place)) e (record {
     answered = refl;
+    numbered = refl;
     reason-kinds = refl;
     reason-components = refl;
     reason-blocks = refl;
@@ -208,8 +210,10 @@ module _ (l : ComponentLists) (m : ConnectionLists) (old : AssessLists) where
         let c4 = f .feedback-counted ∙ ap length fed in
         let c6 = j .projected ∙ ap length listed in
         let c7 = j .path-ids ∙ ap (λ ps. length (pathIds ps)) listed in
+        let told : assessedOf (length (l .ids)) r q ≡ sceneAnswer Accepted (sceneOf l m) = cc (scoped, patterned, kept, rest, c3, c4, c6, c7) in
         subst (λ c. AssessedBy c (sceneOf l m) old new (assessedOf (length (l .ids)) r q)) accepted (record {
-          answered = cc (scoped, patterned, kept, rest, c3, c4, c6, c7);
+          answered = told;
+          numbered = ap sceneNumbers told;
           reason-kinds = f .rows .kinds-written ∙ ap (λ rs. written (old .reasonKinds) (map reasonKind rs)) reasoned;
           reason-components = f .rows .components-written ∙ ap (λ rs. written (old .reasonComponents) (map reasonComponent rs)) reasoned;
           reason-blocks = f .rows .blocks-written ∙ ap (λ rs. written (old .reasonBlocks) (map reasonBlock rs)) reasoned;

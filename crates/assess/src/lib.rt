@@ -1,5 +1,4 @@
 // The call that writes lists 3 to 8: reasons, Feedback ids, marks, projected edges, paths and labels.
 pub mod assess; // assess.rt: the call
-pub mod exports; // exports.rt: the call for C
 mod nodes; // nodes.rt: what the projection has to know of each component
 mod project; // project.rt: lists 5, 6 and 7

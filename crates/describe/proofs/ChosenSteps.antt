@@ -13,7 +13,7 @@ use Rattle.rules.specs.Ordered.{keyAt}
 use Rattle.rules.proofs.Lists.{keep-append, keep-out}
 use Rattle.rules.proofs.Indices.{at-mem, indices-length, indices-more, indices-below}
 use Rattle.laws.proofs.Room.{keep-fewer}
-use Rattle.rules.proofs.Written.{written-none, written-more, written-parts}
+use Rattle.rules.proofs.Written.{written-none, written-more, written-front}
 use Rattle.describe.specs.Components.{ComponentsListed}
 use Rattle.describe.specs.Rows.{devicePositions, Below}
 
@@ -50,10 +50,6 @@ module _ (kinds old : List ℕ) where
       → (chosen ≡ written old (devicePositions kinds (length kinds))) × (count ≡ length (devicePositions kinds (length kinds)))
   chosen-all i count chosen e r = rw (← e) (r .content, r .counted)
 
--- the chosen positions are the front of the list
-pub chosen-front : (old new : List ℕ) (count : ℕ) → count ≡ length new → take count (written old new) ≡ new
-chosen-front old new count e = ap (take count) (written-parts old new) ∙ take-at new _ count (sym e)
-
 -- and are below the number of components
 pub devices-below : (kinds : List ℕ) (n : ℕ) → Below n (devicePositions kinds n)
 unfolding devicePositions
@@ -67,7 +63,7 @@ devices-few kinds n = omega (arith, keep-fewer (λ j. isDevice (kindRow (keyAt k
 module _ (ids kinds old last : List ℕ) (r : ℕ) (same : length kinds ≡ length ids)
     (chosen : (last ≡ written old (devicePositions kinds (length kinds))) × (r ≡ length (devicePositions kinds (length kinds)))) where
   pub chosen-is : take r last ≡ devicePositions kinds (length ids)
-  chosen-is = ap (take r) (chosen .0) ∙ chosen-front old (devicePositions kinds (length kinds)) r (chosen .1) ∙ ap (devicePositions kinds) same
+  chosen-is = ap (take r) (chosen .0) ∙ written-front old (devicePositions kinds (length kinds)) r (sym (chosen .1)) ∙ ap (devicePositions kinds) same
 
   pub chosen-count : r ≡ length (devicePositions kinds (length ids))
   chosen-count = chosen .1 ∙ ap (λ n. length (devicePositions kinds n)) same

@@ -10,7 +10,7 @@ use Rattle.rules.specs.Lists.{written}
 use Rattle.rules.specs.Ordered.{keyAt}
 use Rattle.rules.specs.Scene.{ComponentLists, ConnectionLists, componentAt, rowOf, delayOf, componentsOf, connectionsOf, sceneOf}
 use Rattle.rules.specs.Refusals.{sceneLimits, roomOutputs, shortest}
-use Rattle.rules.specs.Describe.{timedEdges, temporalDevice, devices, evidence, evidenceKind, describeOutputs, checkDescribe, DescribeLists, describeChecked, DescribedBy, DescribeCall}
+use Rattle.rules.specs.Describe.{description, descriptionNumbers, timedEdges, temporalDevice, devices, evidence, evidenceKind, describeOutputs, checkDescribe, DescribeLists, describeChecked, DescribedBy, DescribeCall}
 use Rattle.rules.specs.declared.answers.Checked.{Checked}
 use Rattle.rules.specs.declared.answers.Checked.the-variants.{Accepted, Refused}
 use Rattle.rules.specs.declared.answers.Description.the-variants as Answer
@@ -32,12 +32,13 @@ pub tested : (l : ComponentLists) (m : ConnectionLists) (l0 l1 l2 : List ℕ) (o
     → Tested (checkDescribe sceneLimits l m l0 l1 l2) (l .ids) m order′ starts′ stops′ checked edges
 tested l m l0 l1 l2 order starts stops order′ starts′ stops′ room checked edges r0 r1 r2 fits listed e0 e1 e2 s =
     let i = s .indexed (s .answer ∙ room-fits order starts stops fits) in
-    record { answer = i .answer ∙ cc (e0, e1, e2) ∙ sym (shortest-describe sceneLimits l m l0 l1 l2 listed); accepted = i .accepted }
+    record { answer = i .answer ∙ cc (e0, e1, e2) ∙ sym (shortest-describe sceneLimits l m l0 l1 l2 listed); accepted = i .positions }
 
 module _ (l : ComponentLists) (m : ConnectionLists) (old : DescribeLists) where
   pub call-refused : (number place : ℕ) → Refused number place ≡ describeChecked sceneLimits l m old → DescribeCall sceneLimits l m old old (Answer.Refused number place)
   call-refused number place e = subst (λ c. DescribedBy c (sceneOf l m) old old (Answer.Refused number place)) e (record {
     answered = refl;
+    numbered = refl;
     edge-sources = refl;
     edge-sinks = refl;
     edge-minimums = refl;
@@ -171,8 +172,10 @@ module _ (l : ComponentLists) (m : ConnectionLists) (old : DescribeLists) where
         let d = scene .ids-distinct in
         let v = c .evidence in
         let total : length (m .sources) + devices ≡ length (evidence (componentsOf l) (connectionsOf m)) = omega (arith, evidence-count) in
+        let told : Answer.Described edges devices (length (m .sources) + devices) ≡ description Accepted (sceneOf l m) = cc (edge-count, n ∙ device-count, total) in
         subst (λ r. DescribedBy r (sceneOf l m) old new (Answer.Described edges devices (length (m .sources) + devices))) accepted (record {
-          answered = cc (edge-count, n ∙ device-count, total);
+          answered = told;
+          numbered = ap descriptionNumbers told;
           edge-sources = e1 ∙ ap (written (old .edgeSources)) (edge-sources l m S T d pairs (p .positioned));
           edge-sinks = e2 ∙ ap (written (old .edgeSinks)) (edge-sinks l m S T d pairs (p .positioned));
           edge-minimums = e3 ∙ ap (written (old .edgeMinimums)) (edge-minimums l m S T d pairs (p .positioned));

@@ -5,7 +5,6 @@ use crate::adjacency::ends_below;
 use crate::components::mark_shared;
 use crate::components::strongly_connected_components;
 
-pub mod exports; // exports.rt: the calls for C
 pub mod set_all; // set_all.rt: a list set to one value
 pub mod adjacency; // adjacency.rt: edges linked by the node that they leave
 mod visit_order; // visit_order.rt: depth-first visits, and the order in which they leave the nodes

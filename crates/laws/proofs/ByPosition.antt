@@ -19,8 +19,8 @@ use Rattle.rules.proofs.Columns.{component-ids}
 use Rattle.rules.proofs.Scenes.{DistinctIds, row-at, delay-at}
 use Rattle.rules.proofs.Acceptance.{distinct→ids}
 use Rattle.laws.proofs.Renaming.{label-named, unequal-at-named, unequal-reason-named, compressed-named}
-use Rattle.laws.proofs.RenamedProjection.{namedEntry, projected-named}
-use Rattle.rules.specs.Positions.{idAt, Positioned}
+use Rattle.laws.proofs.RenamedProjection.{projected-named}
+use Rattle.rules.specs.Positions.{namedEntry, idAt, Positioned}
 
 -- the component at a position is a Wire, Conductor or Delay, and one edge over positions leads there and one from there
 abbrev pub compressedAt : ComponentLists → List Edge → ℕ → Bool

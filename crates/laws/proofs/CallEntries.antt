@@ -3,7 +3,6 @@ use mathlib.Core.List.{List, map}
 use mathlib.Core.Path.{_≡_, sym, ap, _∙_}
 use Prim.Native.Nat.{ℕ}
 use lib.ListN.{length, take, length-map}
-use lib.Seq.{take-at}
 use Rattle.rules.specs.Lists.{written}
 use Rattle.rules.specs.Scene.{Scene, ComponentLists, ConnectionLists, sceneOf, edges}
 use Rattle.rules.specs.Labels.{labels, settledFlag, lowSum, highSum}
@@ -14,7 +13,7 @@ use Rattle.rules.specs.Assess.{AssessLists, assessment, AssessedBy, AssessCall}
 use Rattle.rules.specs.declared.answers.Assessment.{Assessment}
 use Rattle.rules.specs.declared.answers.Checked.the-variants.{Accepted}
 use Rattle.rules.specs.declared.answers.SceneAnswer.the-variants.{Assessed}
-use Rattle.rules.proofs.Written.{written-parts}
+use Rattle.rules.proofs.Written.{written-front}
 use Rattle.laws.proofs.Room.{marks-fit, labels-fit}
 use Rattle.laws.proofs.PathParts.{starts-length}
 use Rattle.laws.proofs.StoredEdges.{storedEdges, stored-back}
@@ -52,7 +51,7 @@ pub record EntriesInUse (s : Scene) (a : Assessment) (new : AssessLists) : Type 
 
 module _ {A : Type 0} (l old xs : List A) (used : ℕ) where
   used-list : l ≡ written old xs → used ≡ length xs → take used l ≡ xs
-  used-list e u = rw (e, written-parts old xs) (take-at xs _ used (sym u))
+  used-list e u = rw e (written-front old xs used (sym u))
 
 module _ {A B : Type 0} (f : A → B) (l old : List B) (xs : List A) (used : ℕ) where
   pub used-field : l ≡ written old (map f xs) → used ≡ length xs → take used l ≡ map f xs

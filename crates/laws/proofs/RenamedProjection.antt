@@ -11,12 +11,7 @@ use Rattle.rules.specs.Scene.{Component, risingIds, delayAt}
 use Rattle.rules.specs.Projection.{compressed, retained, firstEdges, next, chain, chainFrom, beforeLast, lastOf, flips, invertsAt, ProjectedEdge, projectedBy, projectedAlong, projected}
 use Rattle.rules.proofs.Lists.{keep-out, keep-same, keep-map, map-same, flat-out, flat-mapped}
 use Rattle.laws.proofs.Renaming.{same-named, sum-named}
-use Rattle.rules.specs.Positions.{named, Inside}
-
--- a projected edge between the names of its ends, with the names of its path
-abbrev pub namedEntry : (ℕ → ℕ) → ProjectedEdge → ProjectedEdge
-namedEntry name p =
-    record { source = name (p .source); sink = name (p .sink); inverted = p .inverted; minimum = p .minimum; maximum = p .maximum; path = map name (p .path) }
+use Rattle.rules.specs.Positions.{namedEntry, named, Inside}
 
 before-map : (f : ℕ → ℕ) (l : List ℕ) → beforeLast (map f l) ≡ map f (beforeLast l)
 unfolding beforeLast

@@ -8,7 +8,8 @@ use Rattle.rules.specs.Ordered.{keyAt, ordered, positionOf}
 use Rattle.rules.specs.declared.positions.Found.{Found}
 use Rattle.rules.specs.declared.positions.Found.the-variants.{At, Missing}
 
--- the answer, whatever the row is, and where it is the ordered positions
+-- where the row is the ordered positions, the answer is the first position of the key; with another row it is open which position that
+-- has the key is answered, or none
 pub record Searched (keys order : List ℕ) (key : ℕ) (r : Found) : Type 0 where
   pub has-key : (p : ℕ) → r ≡ At p → (p < length keys) × (keyAt keys p ≡ key)
   pub first : order ≡ ordered keys → r ≡ positionOf keys key

@@ -9,13 +9,12 @@ use lib.ListN.{length, take, drop, length-append, length-map}
 use lib.Seq.{length-take-le, length-front, take-at}
 use Rattle.rules.specs.Lists.{keep, written}
 use Rattle.rules.specs.Ordered.{keyAt}
-use Rattle.rules.specs.Positions.{idAt}
+use Rattle.rules.specs.Positions.{namedEntry, idAt}
 use Rattle.rules.specs.Graph.{Edge, sourceOf, sinkOf, startsAt, inCount, outCount}
 use Rattle.rules.specs.Projection.{ProjectedEdge, chain, projectedBy, pathIds}
 use Rattle.rules.proofs.Lists.{keep-out, flat-out}
 use Rattle.rules.proofs.Distinct.{Distinct}
-use Rattle.rules.proofs.Written.{written-parts}
-use Rattle.laws.proofs.RenamedProjection.{namedEntry}
+use Rattle.rules.proofs.Written.{written-parts, written-front}
 use Rattle.graph.specs.Adjacency.{leaving}
 use Rattle.projection.specs.Entries.{nodeMarks, invertsFrom, projectedEntries}
 use Rattle.projection.specs.Projecting.{NodeLists, ProjectedLists, WorkLists, edgesOf, entriesOf, projectionFits, ProjectionCall}
@@ -182,7 +181,7 @@ module _ (l : NodeLists) (marks : List ℕ) (c : ProjectedLists) (w : WorkLists)
       number-lent = sym (length-take-le edges firsts number-in)
 
       listed : take edges firsts ≡ first-edges
-      listed = rw (R .listed .list ∙ written-parts (w .firsts) first-edges) (take-at first-edges (drop (length first-edges) (w .firsts)) edges (sym number-is))
+      listed = rw (R .listed .list) (written-front (w .firsts) first-edges edges (sym number-is))
 
       pub ready : Walkable (net (l .sources) (l .sinks) (take (length (l .ids)) (marks′ ++ drop (length (l .ids)) marks)) (l .ids) (l .low) (l .high) (l .inverts)) head
           × Fillable (net (l .sources) (l .sinks) (take (length (l .ids)) (marks′ ++ drop (length (l .ids)) marks)) (l .ids) (l .low) (l .high) (l .inverts)) (take edges firsts) c

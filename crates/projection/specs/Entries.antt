@@ -6,10 +6,9 @@ use lib.Dec.{eqb}
 use lib.ListN.{length}
 use Rattle.rules.specs.Lists.{keep, count, indices}
 use Rattle.rules.specs.Ordered.{keyAt}
-use Rattle.rules.specs.Positions.{idAt}
+use Rattle.rules.specs.Positions.{namedEntry, idAt}
 use Rattle.rules.specs.Graph.{Edge, sourceOf, sinkOf, startsAt, inCount, outCount}
 use Rattle.rules.specs.Projection.{ProjectedEdge, chain, projectedBy}
-use Rattle.laws.proofs.RenamedProjection.{namedEntry}
 
 -- "A Wire, Conductor or Delay with exactly one incoming and one outgoing edge is compressed; all others are retained." A node is one of the
 -- three where its number in `compressible` is not 0

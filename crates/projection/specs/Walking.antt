@@ -6,11 +6,10 @@ use lib.Dec.{T}
 use lib.ListN.{length, getD}
 use Rattle.rules.specs.Lists.{writtenFrom}
 use Rattle.rules.specs.Ordered.{keyAt}
-use Rattle.rules.specs.Positions.{idAt}
+use Rattle.rules.specs.Positions.{namedEntry, idAt}
 use Rattle.rules.specs.Graph.{Edge, _⟶_, sourceOf, sinkOf, inCount, outCount, edgesBetween}
 use Rattle.rules.specs.Projection.{ProjectedEdge, next, chain, projectedBy, pathIds, pathLength}
 use Rattle.rules.specs.declared.delay.DelayRange.{DelayRange}
-use Rattle.laws.proofs.RenamedProjection.{namedEntry}
 use Rattle.graph.specs.Adjacency.{Below}
 use Rattle.projection.specs.Entries.{invertsFrom}
 use Rattle.projection.specs.Marking.{through}

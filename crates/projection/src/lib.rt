@@ -4,7 +4,6 @@ use crate::fill::fill;
 use crate::fits::shapes_fit;
 use crate::retain::retain;
 
-pub mod exports; // exports.rt: the calls for C
 pub mod projected_path; // projected_path.rt: the path of one projected edge
 mod fits; // fits.rt: the tests of the lists' shapes
 mod marks; // marks.rt: edges counted and nodes marked

@@ -27,8 +27,8 @@ pub fn projected_path<'a>(
     &paths[start..end]
 }
 
-// Where the path stands in a list 7 of so many ids; the empty part is at the front.
-pub(crate) fn path_part(ids: usize, starts: &[usize], lengths: &[usize], edge: usize) -> PathPart
+// Where the path stands in a list 7 of so many ids; start and length are 0 where document 01 gives the empty part.
+pub fn path_part(ids: usize, starts: &[usize], lengths: &[usize], edge: usize) -> PathPart
     ensures { λ r. ⌜ r ≡ pathPart ids (now (starts .entry)) (now (lengths .entry)) edge ⌝ }
 {
     if starts.len() <= edge {

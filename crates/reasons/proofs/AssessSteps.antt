@@ -21,7 +21,7 @@ use Rattle.rules.specs.declared.answers.BehaviorPattern.{BehaviorPattern}
 use Rattle.rules.specs.declared.answers.BehaviorPattern.the-variants.{Nothing}
 use Rattle.rules.proofs.Lists.{chosen, keep-out, map-same}
 use Rattle.rules.proofs.Indices.{at-mem, mem-at, made-length, made-at}
-use Rattle.rules.proofs.Written.{written-parts, written-at, written-length}
+use Rattle.rules.proofs.Written.{written-front, written-at, written-length}
 use Rattle.reasons.specs.Assessed.{Assessable, ReasonsFound, ReasonsCall}
 use Rattle.reasons.specs.Fits.{reasonsFit}
 use Rattle.reasons.specs.declared.ReasonsAssessed.{ReasonsAssessed}
@@ -86,8 +86,7 @@ module _ (ids kinds delays locked starts stops order : List ℕ) (asked : Assess
     -- the positions listed are at the front
     front : take count unequal′ ≡ keep (unequalAt es d d) order
     front =
-        ap (take count) (sums .unequal-listed ∙ written-parts unequal (keep (unequalAt es d d) order))
-        ∙ take-at (keep (unequalAt es d d) order) (drop (length (keep (unequalAt es d d) order)) unequal) count (sym (sums .unequal-counted))
+        ap (take count) (sums .unequal-listed) ∙ written-front unequal (keep (unequalAt es d d) order) count (sym (sums .unequal-counted))
 
     front-most : count ≤ length unequal′
     front-most = omega (arith, sums .unequal-counted, ap length (sums .unequal-listed), written-length unequal (keep (unequalAt es d d) order))

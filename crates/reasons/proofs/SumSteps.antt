@@ -19,7 +19,7 @@ use Rattle.rules.specs.Refusals.{sceneLimits}
 use Rattle.rules.proofs.Lists.{chosen, eq-test, map-same, tests}
 use Rattle.rules.proofs.Sums.{order}
 use Rattle.rules.proofs.Indices.{made-length, made-at, indices-below, indices-more}
-use Rattle.rules.proofs.Written.{written-parts, written-at, written-none, written-more}
+use Rattle.rules.proofs.Written.{written-parts, written-front, written-at, written-none, written-more}
 use Rattle.laws.proofs.PositionEdges.{inside-sources, inside-sinks}
 use Rattle.graph.proofs.Fitting.{ends-all}
 use Rattle.reconvergence.specs.Fits.{givenFits, answersFit, workFits, reconvergenceFits, settledMarks, ReconvergentDelays}
@@ -69,7 +69,7 @@ module _ (kinds words : List ℕ) where
       subst (λ d. PathsSummed es d (length kinds) order settles smallest largest unequal settles′ smallest′ largest′ unequal′ r) (ap keyAt front ∙ fun-ext (delays-all e)) p
     where
       front : take (length kinds) delays ≡ column
-      front = ap (take (length kinds)) (q ∙ written-parts old column) ∙ take-at column (drop (length column) old) (length kinds) (made-length (positionDelay kinds words) (length kinds))
+      front = ap (take (length kinds)) q ∙ written-front old column (length kinds) (made-length (positionDelay kinds words) (length kinds))
 
 -- The call for the path sums
 

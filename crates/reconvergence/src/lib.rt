@@ -4,7 +4,6 @@ ghost use Rattle.reconvergence.specs.Fits.{ReconvergentDelays};
 use crate::fits::reconvergence_fits;
 use crate::pass::find_unequal;
 
-pub mod exports; // exports.rt: the calls for C
 mod fits; // fits.rt: whether the lists fit
 mod pass; // pass.rt: the pass over lists that fit
 mod start; // start.rt: the lists before a node is taken

@@ -65,6 +65,17 @@ rows =
       starts = 0 ∷ 3 ∷ [];
       labels = between 0 0 ∷ between 0 0 ∷ between 0 1 ∷ [];
     })
+    -- the same with lamp 4 on a loop of its own: it has no label, and the reason stands
+    ∷ build (lever 1 ∷ repeater 2 1 ∷ lamp 4 ∷ []) (1 to 2 ∷ 2 to 4 ∷ 1 to 4 ∷ 4 to 4 ∷ [])
+    gives report (record {
+      numbers = assessed 1 0 1 0 2 1 3 7;
+      reasons = unequal 4 0 1 ∷ [];
+      feedback = [];
+      marks = 1 ∷ 0 ∷ 1 ∷ [];
+      projected = straight 1 4 1 (1 ∷ 2 ∷ 4 ∷ []) ∷ straight 1 4 0 (1 ∷ 4 ∷ []) ∷ straight 4 4 0 (4 ∷ 4 ∷ []) ∷ [];
+      starts = 0 ∷ 3 ∷ 5 ∷ [];
+      labels = between 0 0 ∷ between 0 0 ∷ unsettled ∷ [];
+    })
     -- repeaters 1→2→1
     ∷ build (repeater 1 1 ∷ repeater 2 1 ∷ []) (1 to 2 ∷ 2 to 1 ∷ [])
     gives report (record {
@@ -211,6 +222,7 @@ rows =
     ∷ checks 3 (plain (5 ∷ []) (3 ∷ [])) (joined (5 ∷ 8 ∷ []) (5 ∷ 8 ∷ []) (0 ∷ 7 ∷ [])) gives checked 5 1
     ∷ checks 3 (plain (5 ∷ []) (3 ∷ [])) (joined (5 ∷ 5 ∷ []) (8 ∷ 5 ∷ []) (0 ∷ 7 ∷ [])) gives checked 6 0
     ∷ checks 3 (plain (5 ∷ []) (3 ∷ [])) (joined (8 ∷ 5 ∷ []) (9 ∷ 8 ∷ []) (6 ∷ 0 ∷ [])) gives checked 6 1
+    ∷ checks 3 (plain (5 ∷ []) (3 ∷ [])) (joined (8 ∷ []) (5 ∷ []) (0 ∷ [])) gives checked 6 0
     -- 8, 1, 2, then 7, before any component
     ∷ checks 0 (plain (1 ∷ 2 ∷ 3 ∷ 4 ∷ []) (13 ∷ [])) (joined (1 ∷ 1 ∷ 1 ∷ []) [] []) gives checked 8 0
     ∷ checks 0 (plain (1 ∷ 2 ∷ 3 ∷ 4 ∷ []) (13 ∷ 3 ∷ 3 ∷ 3 ∷ [])) (joined (1 ∷ 1 ∷ 1 ∷ []) [] []) gives checked 8 1

@@ -46,6 +46,17 @@ module _ {A : Type 0} where
   count-every [] = refl
   count-every (x ∷ l) = ap suc (count-every l)
 
+  -- of all entries, those that pass and those that don't
+  pub count-both : (f : A → Bool) (l : List A) → count f l + count (λ x. not (f x)) l ≡ length l
+  unfolding count
+  count-both f [] = refl
+  count-both f (x ∷ l) = go (f x) (count-both f l)
+    where
+      go : (b : Bool) → count f l + count (λ y. not (f y)) l ≡ length l
+          → cond b (suc (count f l)) (count f l) + cond (not b) (suc (count (λ y. not (f y)) l)) (count (λ y. not (f y)) l) ≡ suc (length l)
+      go true e = omega arith
+      go false e = omega arith
+
   pub count-keep : (f g : A → Bool) (l : List A) → count f (keep g l) ≡ count (λ x. g x && f x) l
   unfolding count keep
   count-keep f g [] = refl

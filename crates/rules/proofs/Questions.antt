@@ -12,7 +12,7 @@ use Rattle.rules.specs.Paths.{noIncoming, settledSources, pathsWithin, p
 use Rattle.rules.specs.Labels.{Label, label, settledFlag, lowSum, highSum, labels}
 use Rattle.rules.specs.Reasons.{inFeedback, feedback, Reason, reasonKind, reasonComponent, reasonBlock, reasonMinimum, reasonMaximum, feedbackReason, ownReason, unequalAt, unequalReason, unequalReasonsBy, unequalReasons, temporalReasons, reasons, scope, pattern}
 use Rattle.rules.specs.Projection.{compressed, marks, retained, firstEdges, next, chain, chainFrom, beforeLast, lastOf, flips, invertsAt, ProjectedEdge, projectedBy, projectedAlong, projected, startsFrom, pathStarts, pathIds, projectedPath}
-use Rattle.rules.specs.Refusals.{sceneLimits, Output, output, firstRefusal, afterFrom, after, componentLengths, connectionLengths, outOfRange, usedEarlier, componentTests, endMissing, connectionTests, sizeTests, sceneTests, checkScene, refusalNumber, refusalPlace}
+use Rattle.rules.specs.Refusals.{needOf, sceneLimits, Output, output, firstRefusal, afterFrom, after, componentLengths, connectionLengths, outOfRange, usedEarlier, componentTests, endMissing, connectionTests, sizeTests, sceneTests, checkScene, refusalNumber, refusalPlace}
 use Rattle.rules.specs.Describe.{TimedEdge, timedEdge, timedEdges, TemporalDevice, temporalDevice, deviceComponents, devices, Evidence, evidenceKind, evidenceSource, evidenceSink, evidenceComponent, evidenceBlock, evidence, describeOutputs, checkDescribe, description as descriptionOf, descriptionNumbers}
 use Rattle.rules.specs.Assess.{assessOutputs, checkAssess, assessment, sceneAnswer, sceneNumbers}
 use Rattle.rules.specs.Pulses.{EventLists, eventAt, eventsOf, isPulse, pulseOf, pulsesIn, eventComponents, pulses}
@@ -127,16 +127,22 @@ connectionLists ns = joined (map (λ n. n .source) ns) (map (λ n. n .sink) ns) 
 abbrev pub lent : List Component → List Connection → Scene
 lent cs ns = sceneOf (componentLists cs) (connectionLists ns)
 
+-- the lengths of the number lists of an output list, no longer than needed
+abbrev pub needed : List Component → List Connection → (list fields : ℕ) → List ℕ
+needed cs ns k fields = replicate fields (needOf (length cs) (length ns) k)
+
 abbrev pub refusal : Checked → Answer
 refusal c = checked (refusalNumber c) (refusalPlace c)
 
 abbrev pub answer : Question → Answer
 answer (build components connections) =
     let s = lent components connections in
+    let of : ℕ → ℕ → List ℕ = needed components connections in
+    let c = checkAssess sceneLimits (componentLists components) (connectionLists connections) (of 3 5) (of 4 1) (of 5 1) (of 6 7) (of 7 1) (of 8 3) in
     let cs = s .components in
     let es = edges s in
     report (record {
-      numbers = sceneNumbers (sceneAnswer Accepted s);
+      numbers = sceneNumbers (sceneAnswer c s);
       reasons = map reasonRow (reasons cs es);
       feedback = feedback cs es;
       marks = marks cs es;
@@ -146,10 +152,12 @@ answer (build components connections) =
     })
 answer (described components connections) =
     let s = lent components connections in
+    let of : ℕ → ℕ → List ℕ = needed components connections in
+    let c = checkDescribe sceneLimits (componentLists components) (connectionLists connections) (of 0 5) (of 1 6) (of 2 5) in
     let cs = s .components in
     let ns = s .connections in
     description (record {
-      numbers = descriptionNumbers (descriptionOf Accepted s);
+      numbers = descriptionNumbers (descriptionOf c s);
       edges = map edgeRow (timedEdges cs ns);
       devices = devices cs;
       evidence = map evidenceRow (evidence cs ns);

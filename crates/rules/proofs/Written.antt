@@ -14,6 +14,10 @@ module _ {A : Type 0} (old new : List A) where
   unfolding writtenFrom
   written-parts = rw zero-add
 
+  -- the front is what was written there
+  pub written-front : (n : ℕ) → length new ≡ n → take n (written old new) ≡ new
+  written-front n h = ap (take n) written-parts ∙ take-at new (drop (length new) old) n h
+
   pub written-at : (k : ℕ) (d : A) → k < length new → getD (written old new) k d ≡ getD new k d
   written-at k d h = ap (λ l. getD l k d) written-parts ∙ List·getD-append new (drop (length new) old) d k h
 

@@ -93,6 +93,7 @@ assessChecked limits l m o =
 -- given what the checks find: the answer, and what each list holds after the call
 pub record AssessedBy (checked : Checked) (s : Scene) (old new : AssessLists) (answer : SceneAnswer) : Type 0 where
   pub answered : answer ≡ sceneAnswer checked s
+  pub numbered : sceneNumbers answer ≡ sceneNumbers (sceneAnswer checked s)
   pub reason-kinds : new .reasonKinds ≡ after checked (old .reasonKinds) (map reasonKind (reasons (s .components) (edges s)))
   pub reason-components : new .reasonComponents ≡ after checked (old .reasonComponents) (map reasonComponent (reasons (s .components) (edges s)))
   pub reason-blocks : new .reasonBlocks ≡ after checked (old .reasonBlocks) (map reasonBlock (reasons (s .components) (edges s)))

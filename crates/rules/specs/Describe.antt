@@ -155,6 +155,7 @@ describeChecked limits l m o =
 -- given what the checks find: the answer, and what each list holds after the call
 pub record DescribedBy (checked : Checked) (s : Scene) (old new : DescribeLists) (answer : Description) : Type 0 where
   pub answered : answer ≡ description checked s
+  pub numbered : descriptionNumbers answer ≡ descriptionNumbers (description checked s)
   pub edge-sources : new .edgeSources ≡ after checked (old .edgeSources) (map (λ e. e .source) (timedEdges (s .components) (s .connections)))
   pub edge-sinks : new .edgeSinks ≡ after checked (old .edgeSinks) (map (λ e. e .sink) (timedEdges (s .components) (s .connections)))
   pub edge-minimums : new .edgeMinimums ≡ after checked (old .edgeMinimums) (map (λ e. e .minimum) (timedEdges (s .components) (s .connections)))

@@ -28,4 +28,5 @@ feedbackNumbers (Answer.Listed ids reasons) = 0 ∷ 0 ∷ ids ∷ reasons ∷ []
 -- the call: its answer, and what list 4 holds after it
 pub record FeedbackCall (limits : SceneLimits) (l : ComponentLists) (m : ConnectionLists) (old new : List ℕ) (answer : FeedbackAnswer) : Type 0 where
   pub answered : answer ≡ feedbackAnswer (checkFeedback limits l m (length old ∷ [])) (sceneOf l m)
+  pub numbered : feedbackNumbers answer ≡ feedbackNumbers (feedbackAnswer (checkFeedback limits l m (length old ∷ [])) (sceneOf l m))
   pub content : new ≡ after (checkFeedback limits l m (length old ∷ [])) old (feedback (componentsOf l) (edges (sceneOf l m)))

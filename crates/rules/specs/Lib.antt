@@ -6,12 +6,12 @@ pub mod Kinds
 pub mod Codes
 -- the scene, its edges and paths, and what is said of them:
 pub mod Graph
-pub mod Positions
 pub mod Scene
 pub mod Paths
 pub mod Labels
 pub mod Reasons
 pub mod Projection
+pub mod Positions
 -- the refusals of a scene, and the calls on a scene:
 pub mod Refusals
 pub mod Feedback

@@ -4,6 +4,7 @@ use mathlib.Core.Path.{_≡_}
 use Prim.Native.Nat.{ℕ, _<_}
 use lib.ListN.{length, getD}
 use Rattle.rules.specs.Graph.{Edge, _⟶_, sourceOf, sinkOf}
+use Rattle.rules.specs.Projection.{ProjectedEdge}
 
 -- the id at a position
 abbrev pub idAt : List ℕ → ℕ → ℕ
@@ -12,6 +13,11 @@ idAt ids i = getD ids i 0
 -- an edge between the names of its ends
 abbrev pub named : (ℕ → ℕ) → Edge → Edge
 named name e = name (sourceOf e) ⟶ name (sinkOf e)
+
+-- a projected edge between the names of its ends, with the names of its path
+abbrev pub namedEntry : (ℕ → ℕ) → ProjectedEdge → ProjectedEdge
+namedEntry name p =
+    record { source = name (p .source); sink = name (p .sink); inverted = p .inverted; minimum = p .minimum; maximum = p .maximum; path = map name (p .path) }
 
 -- both ends of every edge are below n
 abbrev pub Inside : ℕ → List Edge → Type 0

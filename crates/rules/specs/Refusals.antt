@@ -2,6 +2,7 @@
 -- Assumes nothing: these are definitions.
 use mathlib.Core.Bool.{Bool, false, not, cond, _&&_, _||_}
 use mathlib.Core.List.{List, [], _∷_, _++_, map, flatMap}
+use mathlib.Core.Path.{_≡_}
 use Prim.Native.Nat.{ℕ, suc, _+_, _*_, min}
 use lib.Dec.{eqb, ltb}
 use lib.ListN.{length, getD, take}
@@ -142,3 +143,9 @@ refusalNumber (Refused number place) = number
 abbrev pub refusalPlace : Checked → ℕ
 refusalPlace Accepted = 0
 refusalPlace (Refused number place) = place
+
+-- a call that only checks: its answer, with its number and place
+pub record CheckCall (checked answer : Checked) : Type 0 where
+  pub answered : answer ≡ checked
+  pub numbered : refusalNumber answer ≡ refusalNumber checked
+  pub placed : refusalPlace answer ≡ refusalPlace checked

@@ -35,8 +35,8 @@ pub enum DeviceMeaning {
 
 // The delay of a kind: fixed, or the component's own with a number for an absent one.
 pub enum KindDelay {
-    Fixed(u32),
-    Own(u32),
+    Fixed(u8),
+    Own(u8),
 }
 
 pub struct KindRow {

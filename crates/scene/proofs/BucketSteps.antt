@@ -15,7 +15,7 @@ use Rattle.rules.specs.declared.positions.Found.the-variants.{At, Missing}
 use Rattle.rules.proofs.Lists.{keep-in, eq-test}
 use Rattle.rules.proofs.Indices.{below-indices, map-at}
 use Rattle.rules.proofs.Ordering.{first→position, none→missing}
-use Rattle.rules.proofs.Written.{written-parts}
+use Rattle.rules.proofs.Written.{written-front}
 use Rattle.graph.specs.Adjacency.{Below, follow, chain, leaving, Rises}
 use Rattle.graph.proofs.Chains.{chain-step, chain-end}
 use Rattle.graph.specs.Fits.{endsBelow, indexFits, EdgesIndexed}
@@ -67,7 +67,7 @@ module _ (ids order head next : List ℕ) (i : IdIndex ids order head next) (id 
 -- linking the ids by their buckets
 module _ (ids old buckets : List ℕ) (filled : buckets ≡ written old (map bucketOf ids)) where
   pub buckets-front : take (length ids) buckets ≡ map bucketOf ids
-  buckets-front = ap (take (length ids)) (filled ∙ written-parts old (map bucketOf ids)) ∙ take-at (map bucketOf ids) _ (length ids) (length-map ids bucketOf)
+  buckets-front = ap (take (length ids)) filled ∙ written-front old (map bucketOf ids) (length ids) (length-map ids bucketOf)
 
   pub buckets-length : length ids ≡ length (take (length ids) buckets)
   buckets-length = sym (length-map ids bucketOf) ∙ ap length (sym buckets-front)

@@ -8,11 +8,12 @@ use lib.ListN.{length, take}
 use Rattle.rules.specs.Lists.{written}
 use Rattle.rules.specs.Ordered.{ordered}
 use Rattle.rules.specs.Scene.{ComponentLists, componentLists, ConnectionLists, componentAt}
-use Rattle.rules.specs.Refusals.{Test, Output, SceneLimits, sceneLimits, firstRefusal, outOfRange, componentTests, connectionTests, sizeTests, sceneTests, checkScene, rows}
+use Rattle.rules.specs.Refusals.{Test, Output, SceneLimits, sceneLimits, firstRefusal, outOfRange, componentTests, connectionTests, sizeTests, sceneTests, checkScene, rows, refusalNumber, refusalPlace, CheckCall}
 use Rattle.rules.specs.declared.answers.Checked.{Checked}
 use Rattle.rules.specs.declared.answers.Checked.the-variants.{Accepted, Refused}
 use Rattle.rules.proofs.Lists.{and-both, chosen}
-use Rattle.rules.proofs.Ordering.{ordered-front}
+use Rattle.rules.proofs.Ordering.{ordered-length}
+use Rattle.rules.proofs.Written.{written-front}
 use Rattle.rules.proofs.FirstRefusal.{skip, stay, not-both, at-most, none-holds}
 use Rattle.rules.proofs.Acceptance.{aligned-components, aligned-connections}
 use Rattle.order.specs.Sorted.{sortFits, SortedPositions}
@@ -24,7 +25,7 @@ pub sorted-front : (keys order scratch order′ scratch′ : List ℕ) (r : Bool
     → take (length keys) order′ ≡ ordered keys
 unfolding sortFits
 sorted-front keys order scratch order′ scratch′ r h k s =
-    ap (take (length keys)) (s .positions ∙ chosen (written order (ordered keys)) order r fits) ∙ ordered-front keys order
+    ap (take (length keys)) (s .positions ∙ chosen (written order (ordered keys)) order r fits) ∙ written-front order (ordered keys) (length keys) (ordered-length keys)
   where
     fits : T r
     fits = subst T (sym (s .answer)) (and-both (leb (length keys) (length order)) _ (le→leb (length keys) (length order) h) (le→leb (length keys) (length scratch) k))
@@ -89,3 +90,7 @@ sized l m outputs e =
       components-few = at-most (sceneLimits .components) (length (l .ids)) (none _ (List·Memᴰ·tail (List·Memᴰ·tail (List·Memᴰ·head refl))));
       connections-few = at-most (sceneLimits .connections) (length (m .sources)) (none _ (List·Memᴰ·tail (List·Memᴰ·tail (List·Memᴰ·tail (List·Memᴰ·head refl)))));
     }
+
+-- an answer that is what the checks find has its number and place
+pub checked-as : (found answer : Checked) → answer ≡ found → CheckCall found answer
+checked-as found answer e = record { answered = e; numbered = ap refusalNumber e; placed = ap refusalPlace e }

@@ -8,7 +8,7 @@ use lib.Seq.{length-take-le}
 use Rattle.rules.specs.Lists.{written}
 use Rattle.rules.specs.Scene.{ComponentLists, ConnectionLists, componentsOf, connectionsOf, edgesOf, sceneOf}
 use Rattle.rules.specs.Reasons.{feedback, feedbackReason}
-use Rattle.rules.specs.Feedback.{checkFeedback, feedbackAnswer, FeedbackCall}
+use Rattle.rules.specs.Feedback.{feedbackNumbers, checkFeedback, feedbackAnswer, FeedbackCall}
 use Rattle.rules.specs.Refusals.{Output, sceneLimits, after, checkScene, roomOutputs}
 use Rattle.rules.specs.declared.answers.Checked.the-variants.{Accepted, Refused}
 use Rattle.rules.specs.declared.answers.FeedbackAnswer.the-variants as Answer
@@ -51,14 +51,15 @@ module _ (l : ComponentLists) (m : ConnectionLists) (old order starts stops : Li
 
   pub call-refused : (number place : ℕ) → Refused number place ≡ checkScene sceneLimits l m outputs → FeedbackCall sceneLimits l m old old (Answer.Refused number place)
   unfolding checkFeedback
-  call-refused number place e = record { answered = ap (λ c. feedbackAnswer c (sceneOf l m)) e; content = ap (λ c. after c old (feedback (componentsOf l) (edgesOf (connectionsOf m)))) e }
+  call-refused number place e = record { answered = ap (λ c. feedbackAnswer c (sceneOf l m)) e; numbered = ap (λ c. feedbackNumbers (feedbackAnswer c (sceneOf l m))) e; content = ap (λ c. after c old (feedback (componentsOf l) (edgesOf (connectionsOf m)))) e }
 
   pub call-listed : (new : List ℕ) (found : FeedbackListed) (reasons : ℕ) → sceneLimits .connections ≤ length starts → sceneLimits .connections ≤ length stops → Accepted ≡ checkScene sceneLimits l m outputs
       → Positions (l .ids) m order starts stops edgeCount → FeedbackIds (l .ids) (l .kinds) (take edgeCount starts) (take edgeCount stops) old new found
       → ((ids : List ℕ) → found .listed ≡ length ids → reasons ≡ length (feedbackReason ids)) → FeedbackCall sceneLimits l m old new (Answer.Listed (found .listed) reasons)
   unfolding checkFeedback
   call-listed new found reasons h k e p f r = record {
-    answered = cc (counted, r (feedback (componentsOf l) (edgesOf (connectionsOf m))) counted) ∙ ap (λ c. feedbackAnswer c (sceneOf l m)) e;
+    answered = told;
+    numbered = ap feedbackNumbers told;
     content = listed .0 ∙ ap (written old) same ∙ ap (λ c. after c old (feedback (componentsOf l) (edgesOf (connectionsOf m)))) e;
   }
     where
@@ -73,3 +74,6 @@ module _ (l : ComponentLists) (m : ConnectionLists) (old order starts stops : Li
 
       counted : found .listed ≡ length (feedback (componentsOf l) (edgesOf (connectionsOf m)))
       counted = listed .1 ∙ ap length same
+
+      told : Answer.Listed (found .listed) reasons ≡ feedbackAnswer (checkScene sceneLimits l m outputs) (sceneOf l m)
+      told = cc (counted, r (feedback (componentsOf l) (edgesOf (connectionsOf m))) counted) ∙ ap (λ c. feedbackAnswer c (sceneOf l m)) e

@@ -12,7 +12,7 @@ use rules::positions::Found;
 // A prime near twice the most components that a scene may have.
 pub(crate) const BUCKETS: usize = 1021;
 
-// How many ids of a bucket are looked at before the ordered ids are searched.
+// How many ids of a bucket are passed over before the ordered ids are searched.
 const PROBES: usize = 8;
 
 fn bucket_of(id: u64) -> usize

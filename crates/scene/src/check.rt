@@ -1,8 +1,7 @@
 // The checks of a scene: whether document 01 accepts it, or its first refusal.
-ghost use mathlib.Core.Path.{_≡_};
 ghost use lib.ListN.{length};
 ghost use Rattle.rules.specs.Scene.{componentLists, connectionLists};
-ghost use Rattle.rules.specs.Refusals.{sceneLimits, checkScene, roomOutputs};
+ghost use Rattle.rules.specs.Refusals.{sceneLimits, checkScene, roomOutputs, CheckCall};
 use crate::index::index_scene;
 use rules::answers::Checked;
 use rules::limits::MAX_COMPONENTS;
@@ -25,7 +24,7 @@ pub fn check_scene(
     first: usize,
     room: &[usize],
 ) -> Checked
-    ensures { λ r. ⌜ r ≡ checkScene sceneLimits (componentLists (now (ids .entry)) (now (kinds .entry)) (now (delays .entry)) (now (locked .entry)) (now (xs .entry)) (now (ys .entry)) (now (zs .entry))) (connectionLists (now (sources .entry)) (now (sinks .entry)) (now (transfers .entry))) (roomOutputs (length (now (ids .entry))) (length (now (sources .entry))) first (now (room .entry))) ⌝ }
+    ensures { λ r. ⌜ CheckCall (checkScene sceneLimits (componentLists (now (ids .entry)) (now (kinds .entry)) (now (delays .entry)) (now (locked .entry)) (now (xs .entry)) (now (ys .entry)) (now (zs .entry))) (connectionLists (now (sources .entry)) (now (sinks .entry)) (now (transfers .entry))) (roomOutputs (length (now (ids .entry))) (length (now (sources .entry))) first (now (room .entry)))) r ⌝ }
 {
     let mut order = [0usize; MAX_COMPONENTS];
     let mut starts = [0usize; MAX_CONNECTIONS];

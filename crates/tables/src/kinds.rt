@@ -87,13 +87,24 @@ pub fn kind_row(code: u8) -> KindRow
     if i < 13 { KINDS[i] } else { CONDUCTOR }
 }
 
+// A byte as a number of ticks.
+fn wide(byte: u8) -> u32
+    ensures { λ r. ⌜ r ≡ byte ⌝ }
+{
+    byte as u32
+}
+
 // The delay by what a row says and a delay word.
 pub fn delay_by(delay: KindDelay, word: u16) -> u32
     ensures { λ r. ⌜ r ≡ delayBy delay word ⌝ }
 {
     match delay {
-        KindDelay::Fixed(ticks) => ticks,
-        KindDelay::Own(absent) => if word < 256 { word as u32 } else { absent },
+        KindDelay::Fixed(ticks) => wide(ticks),
+        KindDelay::Own(absent) => if word < 256 {
+            word as u32
+        } else {
+            wide(absent)
+        },
     }
 }
 

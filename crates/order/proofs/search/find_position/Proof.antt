@@ -2,7 +2,6 @@
 use native.Mathlib.Omega.{arith}
 use borrow.Author.Needs.{needs}
 use Rattle.order.proofs.Searching.{searched-at, searched-missing}
-use borrow.Author.Needs.{needs}
 use Rattle.order.proofs.search.find_position.Statement.{statement}
 use Rattle.order.proofs.search.find_position.Tie as tie
 

@@ -5,7 +5,6 @@ use borrow.Author.Needs.{needs}
 use lib.ListN.{length}
 use lib.Seq.{length-take-le}
 use Rattle.scene.proofs.IndexSteps.{components-refused, ends-indexed}
-use borrow.Author.Needs.{needs}
 use Rattle.scene.proofs.index.index_rows.Statement.{statement}
 use Rattle.scene.proofs.index.index_rows.Tie as tie
 

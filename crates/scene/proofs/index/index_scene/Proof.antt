@@ -5,7 +5,6 @@ use lib.ListN.{length}
 use Rattle.rules.specs.Scene.{componentLists, connectionLists}
 use Rattle.rules.specs.Refusals.{roomOutputs}
 use Rattle.scene.proofs.IndexSteps.{sized, sizes-refused, rows-indexed}
-use borrow.Author.Needs.{needs}
 use Rattle.scene.proofs.index.index_scene.Statement.{statement}
 use Rattle.scene.proofs.index.index_scene.Tie as tie
 

@@ -2,7 +2,6 @@
 use native.Mathlib.Omega.{arith}
 use borrow.Author.Needs.{needs}
 use Rattle.scene.proofs.IndexSteps.{sorted-front}
-use borrow.Author.Needs.{needs}
 use Rattle.scene.proofs.index.order_ids.Statement.{statement}
 use Rattle.scene.proofs.index.order_ids.Tie as tie
 

@@ -8,8 +8,8 @@ use Rattle.scene.proofs.positions.scene_positions.Tie as tie
 positions-fit-requires : tie.Need-positions-fit-requires
 positions-fit-requires c κs = search needs
 
-index-scene-requires : tie.Need-index-scene-requires
-index-scene-requires c κs = fitting-room _ _ _ (sym (c .before .before .before .before .positions-fit .ensures) ∙ c .before .before .before .if1 .taken)
+index-lent-requires : tie.Need-index-lent-requires
+index-lent-requires c κs = fitting-room _ _ _ (sym (c .before .before .before .before .positions-fit .ensures) ∙ c .before .before .before .if1 .taken)
 
 same-length : tie.Need-same-length
 same-length c = search needs
@@ -21,7 +21,7 @@ same-length-3 : tie.Need-same-length-3
 same-length-3 c = search needs
 
 returns : tie.Need-returns
-returns c = positioned _ _ _ _ _ _ (sym (c .before .before .before .before .before .before .before .before .before .before .if1 .taken) ∙ c .before .before .before .before .before .before .before .before .before .before .before .positions-fit .ensures) _ _ _ _ _ (c .before .before .before .before .before .before .index-scene .ensures)
+returns c = positioned _ _ _ _ _ _ (sym (c .before .before .before .before .before .before .before .before .before .before .if1 .taken) ∙ c .before .before .before .before .before .before .before .before .before .before .before .positions-fit .ensures) _ _ _ _ _ (c .before .before .before .before .before .before .index-lent .ensures)
 
 returns-2 : tie.Need-returns-2
 returns-2 c = untested _ _ _ _ _ _ (sym (c .if1 .left) ∙ c .before .positions-fit .ensures)
@@ -31,7 +31,7 @@ scene-positions-spec =
     tie.close
     (tie.spec
     positions-fit-requires
-    index-scene-requires
+    index-lent-requires
     same-length
     same-length-2
     same-length-3
