@@ -4,13 +4,8 @@
 //!
 //! What either side needs is made before the clock starts. It exits with 1 where an answer is
 //! wrong, and for no other reason.
-#[allow(dead_code)]
-#[path = "../../growth/src/archive.rs"]
-mod archive;
 mod clock;
 mod parts;
-#[path = "../../growth/src/plain.rs"]
-mod plain;
 mod scenes;
 
 use std::process::exit;

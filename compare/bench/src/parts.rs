@@ -2,57 +2,103 @@
 //! scene's limits.
 use compare::rust;
 use dustroute_ir::TemporalAnalysis;
-use generator::fill::filled;
+use generator::fill::{delay_ranges, filled};
 use generator::rng::Rng;
-use generator::shapes::dense;
+use generator::shapes::{Shape, dense};
 use generator::sketch::Pair;
+use generator::timing::full_no_cycle;
+use library::marking::{Scratch, mark_shared_components};
+use library::ordering::sort_positions;
+use library::reconvergent::{Reconverged, SumLists, TimedGraph, reconvergent_delay_reasons};
+use plain::reconvergence::reconvergence;
+use plain::shared::shared_marks;
 
-use crate::archive::{Scratch, mark_shared_components, sort_positions};
 use crate::clock::{Best, timed};
-use crate::plain::shared_marks;
 
 const COMPONENTS: usize = 4096;
+/// Few components of the first are settled, all of the second.
+const SHAPES: [Shape; 2] = [("dense", dense), ("full, no cycle", full_no_cycle)];
+const PARTS: [&str; 4] = [
+    "the Rust, whole",
+    "sort_positions",
+    "mark_shared_components",
+    "reconvergent_delay_reasons",
+];
 
 pub fn table(rng: &mut Rng) -> Result<(), String> {
-    let sketch = dense(rng, COMPONENTS);
-    let lists = filled(rng, &sketch);
-    let scene = rust::physical_scene(&lists);
-    let edges = &sketch.edges;
-    let sources: Vec<_> = edges.iter().map(|edge| edge.0).collect();
-    let sinks: Vec<_> = edges.iter().map(|edge| edge.1).collect();
-    let (mut order, mut work) = (vec![0; COMPONENTS], vec![0; COMPONENTS]);
-    let (mut marks, mut scratch) = (vec![0; COMPONENTS], Scratch::new(COMPONENTS, edges.len()));
-    let best = Best::of(&mut [
-        &mut || timed(|| TemporalAnalysis::from_scene(&scene)),
-        &mut || timed(|| sort_positions(&lists.ids, &mut order, &mut work)),
-        &mut || timed(|| mark_shared_components(&sources, &sinks, &mut marks, &mut scratch)),
-    ]);
-    right(&lists.ids, &order, edges, &marks)?;
-    let m = edges.len();
     println!(
-        "{:<28}{:>6}{:>8}{:>12}{:>8}",
-        "part", "N", "M", "time", "ratio"
+        "{:<16}{:<28}{:>6}{:>8}{:>12}{:>8}",
+        "scene", "part", "N", "M", "time", "ratio"
     );
-    let names = [
-        "the Rust, whole",
-        "sort_positions",
-        "mark_shared_components",
-    ];
-    for (thing, name) in names.iter().enumerate() {
-        let (time, ratio) = (best.microseconds(thing), best.ratio(thing));
-        println!("{name:<28}{COMPONENTS:>6}{m:>8}{time:>12.1}{ratio:>8.1}");
+    for shape in SHAPES {
+        rows(rng, shape)?;
     }
     Ok(())
 }
 
-/// Whether the answers that were timed are right.
-fn right(ids: &[u64], order: &[usize], edges: &[Pair], marks: &[u8]) -> Result<(), String> {
-    let rises = |pair: &[usize]| (ids[pair[0]], pair[0]) < (ids[pair[1]], pair[1]);
-    if !order.windows(2).all(rises) {
-        return Err("sort_positions".to_owned());
-    }
-    if shared_marks(ids.len(), edges) != marks {
-        return Err("mark_shared_components".to_owned());
+fn rows(rng: &mut Rng, (shape, sketch): Shape) -> Result<(), String> {
+    let sketch = sketch(rng, COMPONENTS);
+    let lists = filled(rng, &sketch);
+    let scene = rust::physical_scene(&lists);
+    let (ids, edges, m) = (&lists.ids, &sketch.edges, sketch.edges.len());
+    let graph = timed_graph(rng, edges);
+    let mut rising: Vec<_> = (0..COMPONENTS).collect();
+    rising.sort_by_key(|v| ids[*v]);
+    let (mut order, mut work) = (vec![0; COMPONENTS], vec![0; COMPONENTS]);
+    let (mut marks, mut scratch) = (vec![7; COMPONENTS], Scratch::new(COMPONENTS, m));
+    let (mut sums, mut answer) = (SumLists::new(COMPONENTS, m), None);
+    let best = Best::of(&mut [
+        &mut || timed(|| TemporalAnalysis::from_scene(&scene)),
+        &mut || timed(|| sort_positions(ids, &mut order, &mut work)),
+        &mut || {
+            timed(|| mark_shared_components(&graph.sources, &graph.sinks, &mut marks, &mut scratch))
+        },
+        &mut || timed(|| answer = Some(reconvergent_delay_reasons(&graph, &rising, &mut sums))),
+    ]);
+    let right = [
+        true,
+        order == rising,
+        marks == shared_marks(COMPONENTS, edges),
+        answer.is_some_and(|answer| right_sums(&graph, edges, &rising, answer, &sums)),
+    ];
+    for (thing, part) in PARTS.iter().enumerate() {
+        if !right[thing] {
+            return Err(format!("{part}: {shape}"));
+        }
+        let (time, ratio) = (best.microseconds(thing), best.ratio(thing));
+        println!("{shape:<16}{part:<28}{COMPONENTS:>6}{m:>8}{time:>12.1}{ratio:>8.1}");
     }
     Ok(())
+}
+
+fn timed_graph(rng: &mut Rng, edges: &[Pair]) -> TimedGraph {
+    let (sources, sinks) = edges.iter().copied().unzip();
+    let (low, high) = delay_ranges(rng, COMPONENTS);
+    TimedGraph {
+        sources,
+        sinks,
+        low,
+        high,
+    }
+}
+
+/// Whether marks, sums and the listed positions are those of the plain computation.
+fn right_sums(
+    graph: &TimedGraph,
+    edges: &[Pair],
+    rising: &[usize],
+    answer: Reconverged,
+    sums: &SumLists,
+) -> bool {
+    let plain = reconvergence(edges, &graph.low, &graph.high, rising);
+    let count = plain.unequal.len();
+    let numbers = Reconverged {
+        fits: true,
+        unequal: count,
+    };
+    answer == numbers
+        && sums.settled == plain.settled
+        && sums.smallest == plain.smallest
+        && sums.largest == plain.largest
+        && sums.unequal[..count] == plain.unequal
 }

@@ -3,35 +3,11 @@ use std::fmt::Debug;
 
 use generator::lists::SceneLists;
 use generator::rng::Rng;
+use library::assessment::{AssessNumbers, AssessSlices, assess_scene};
+use library::description::{DescribeNumbers, DescribeSlices, describe_scene};
 
 use crate::document::Refusal;
 use crate::lent::Lent;
-
-#[repr(C)]
-#[derive(Clone, Copy, Debug, Default, Eq, PartialEq)]
-pub struct DescribeNumbers {
-    pub number: u32,
-    pub place: u64,
-    pub timed_edges: u64,
-    pub devices: u64,
-    pub evidence: u64,
-}
-
-#[repr(C)]
-#[derive(Clone, Copy, Debug, Default, Eq, PartialEq)]
-pub struct AssessNumbers {
-    pub number: u32,
-    pub place: u64,
-    pub scope: u8,
-    pub pattern: u8,
-    pub confidence: u8,
-    pub reasons: u64,
-    pub feedback: u64,
-    pub retained: u64,
-    pub compressed: u64,
-    pub projected: u64,
-    pub path_ids: u64,
-}
 
 /// A call of a scene, with the number lists that it is lent to write.
 pub trait SceneCall: Sized {
@@ -52,11 +28,9 @@ pub trait SceneCall: Sized {
 
 /// Declares a call by its number lists, each with the output list that it is a field of.
 macro_rules! scene_call {
-    ($function:ident($lent:ident, $entries:ident) -> $numbers:ident {
+    ($call:ident($slices:ident, $lent:ident, $entries:ident) -> $numbers:ident {
         $($field:ident: $type:ty = $list:literal,)*
     }) => {
-        scene_function!($function($($field: *mut $type, _: usize),*) -> $numbers);
-
         /// The entries that a call uses.
         #[derive(Clone, Debug, Default, Eq, PartialEq)]
         pub struct $entries {
@@ -81,7 +55,7 @@ macro_rules! scene_call {
         impl SceneCall for $lent {
             type Numbers = $numbers;
             type Entries = $entries;
-            const NAME: &'static str = stringify!($function);
+            const NAME: &'static str = concat!("sizhbanto_", stringify!($call));
             const LISTS: &'static [usize] = &[$($list),*];
 
             fn lend(rng: &mut Rng, lengths: &[usize]) -> Self {
@@ -92,11 +66,7 @@ macro_rules! scene_call {
             }
 
             fn call(&mut self, scene: &SceneLists) -> $numbers {
-                // every pointer and length is that of a slice that outlives the call, and nothing
-                // else refers to the lists that are written
-                unsafe {
-                    call!($function(scene, $(self.$field.pointer(), self.$field.length()),*))
-                }
+                $call(scene, $slices { $($field: self.$field.part(),)* })
             }
 
             fn hold(&self, new: &$entries) -> Result<(), String> {
@@ -115,42 +85,9 @@ macro_rules! scene_call {
     };
 }
 
-scene_call!(sizhbanto_describe_scene(DescribeLists, DescribeEntries) -> DescribeNumbers {
-    edge_sources: u64 = 0,
-    edge_sinks: u64 = 0,
-    edge_minimums: u32 = 0,
-    edge_maximums: u32 = 0,
-    edge_behaviors: u8 = 0,
-    device_components: u64 = 1,
-    device_xs: i32 = 1,
-    device_ys: i32 = 1,
-    device_zs: i32 = 1,
-    device_semantics: u8 = 1,
-    device_delays: u32 = 1,
-    evidence_kinds: u8 = 2,
-    evidence_sources: u64 = 2,
-    evidence_sinks: u64 = 2,
-    evidence_components: u64 = 2,
-    evidence_blocks: u8 = 2,
-});
-
-scene_call!(sizhbanto_assess_scene(AssessLists, AssessEntries) -> AssessNumbers {
-    reason_kinds: u8 = 3,
-    reason_components: u64 = 3,
-    reason_blocks: u8 = 3,
-    reason_minimums: u32 = 3,
-    reason_maximums: u32 = 3,
-    feedback_ids: u64 = 4,
-    marks: u8 = 5,
-    projected_sources: u64 = 6,
-    projected_sinks: u64 = 6,
-    projected_inverted: u8 = 6,
-    projected_minimums: u32 = 6,
-    projected_maximums: u32 = 6,
-    projected_starts: usize = 6,
-    projected_lengths: usize = 6,
-    path_ids: u64 = 7,
-    label_settled: u8 = 8,
-    label_lows: u32 = 8,
-    label_highs: u32 = 8,
-});
+library::describe_lists!(
+    scene_call!(describe_scene(DescribeSlices, DescribeLists, DescribeEntries) -> DescribeNumbers)
+);
+library::assess_lists!(
+    scene_call!(assess_scene(AssessSlices, AssessLists, AssessEntries) -> AssessNumbers)
+);

@@ -35,14 +35,6 @@ impl<T: Number> Lent<T> {
         Self { old, now, length }
     }
 
-    pub fn pointer(&mut self) -> *mut T {
-        self.part().as_mut_ptr()
-    }
-
-    pub fn length(&self) -> usize {
-        self.length
-    }
-
     pub fn part(&mut self) -> &mut [T] {
         &mut self.now[BESIDE..BESIDE + self.length]
     }

@@ -1,6 +1,4 @@
-//! Holds the library's archives against the unchanged Rust and against document 01.
-#[macro_use]
-pub mod archive;
+//! Holds the library against the unchanged Rust and against document 01.
 pub mod answer;
 pub mod builds;
 pub mod calls;
@@ -12,7 +10,6 @@ pub mod fixed;
 pub mod lent;
 pub mod order;
 pub mod parts;
-pub mod path_call;
 pub mod reached;
 pub mod rooms;
 pub mod round;

@@ -1,4 +1,4 @@
-//! Holds the library's archives against the unchanged Rust and against document 01.
+//! Holds the library against the unchanged Rust and against document 01.
 //!
 //!     compare [--seed SEED] [--rounds ROUNDS]
 //!

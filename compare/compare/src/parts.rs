@@ -1,9 +1,9 @@
 //! The part of list 7 that holds one edge's path.
 use generator::rng::Rng;
+use library::path::{PathPart, projected_path};
 
 use crate::calls::{AssessEntries, AssessLists};
 use crate::difference::{Difference, equal};
-use crate::path_call::{PathPart, projected_path};
 
 const NAME: &str = "sizhbanto_projected_path";
 const EMPTY: PathPart = PathPart {

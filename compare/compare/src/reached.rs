@@ -2,8 +2,9 @@
 use std::collections::BTreeSet;
 
 use generator::lists::{SUPPORT, SceneLists};
+use library::assessment::AssessNumbers;
 
-use crate::calls::{AssessEntries, AssessNumbers};
+use crate::calls::AssessEntries;
 use crate::expected::Expected;
 
 /// Each must be seen in a run.

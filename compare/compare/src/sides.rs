@@ -1,8 +1,8 @@
 //! A case asked of all sides.
 use generator::rng::Rng;
+use library::checks::{CheckedNumbers, FeedbackNumbers, check_scene, feedback_scene};
 
 use crate::answer::Answer;
-use crate::archive::{self, CheckedNumbers, FeedbackNumbers};
 use crate::calls::{AssessLists, DescribeLists, SceneCall};
 use crate::case::Case;
 use crate::difference::{Difference, equal};
@@ -48,7 +48,7 @@ fn compare_check(case: &Case) -> Result<Option<Refusal>, Difference> {
     let refusal = expected_refusal(&case.lists, &case.check_room());
     let (number, place) = refusal.unwrap_or_default();
     let wanted = CheckedNumbers { number, place };
-    let answer = archive::check_scene(&case.lists, case.first, &case.room);
+    let answer = check_scene(&case.lists, case.first, &case.room);
     equal("sizhbanto_check_scene", &wanted, &answer)?;
     Ok(refusal)
 }
@@ -70,7 +70,7 @@ fn compare_feedback(
         reasons: u64::from(!ids.is_empty()),
     };
     let mut list = Lent::new(rng, case.feedback);
-    let answer = archive::feedback_scene(&case.lists, list.part());
+    let answer = feedback_scene(&case.lists, list.part());
     equal(NAME, &wanted, &answer)?;
     let held = list.holds("list 4", ids);
     held.map_err(|told| Difference::new(NAME, &told))?;

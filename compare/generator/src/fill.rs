@@ -95,6 +95,16 @@ fn delay(rng: &mut Rng) -> u16 {
     }
 }
 
+/// For each of `n` nodes a delay, and one that is no smaller.
+pub fn delay_ranges(rng: &mut Rng, n: usize) -> (Vec<u32>, Vec<u32>) {
+    (0..n)
+        .map(|_| {
+            let low = u32::from(delay(rng));
+            (low, low + rng.below(3) as u32)
+        })
+        .unzip()
+}
+
 fn coordinate(rng: &mut Rng) -> i32 {
     match rng.below(3) {
         0 => rng.between(0, 6) as i32 - 3,

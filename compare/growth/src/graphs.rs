@@ -1,12 +1,13 @@
 //! The shapes of graphs, with four edges for each node or nearly so.
 use generator::rng::Rng;
-use generator::sketch::{self, Pair, any_edges, both_ways, line};
+use generator::sketch::{self, Pair, any_edges, both_ways, forward_edges, line};
 
 /// A name, and how such a graph is made.
 pub type Shape = (&'static str, fn(&mut Rng, usize) -> Vec<Pair>);
 
-pub const SHAPES: [Shape; 5] = [
+pub const SHAPES: [Shape; 6] = [
     ("random", random),
+    ("forward", forward),
     ("ring", ring),
     ("chain", chain),
     ("hub", hub),
@@ -24,6 +25,11 @@ pub fn edges(rng: &mut Rng, name: &str, n: usize) -> Option<Vec<Pair>> {
 
 fn random(rng: &mut Rng, n: usize) -> Vec<Pair> {
     any_edges(rng, n, 4 * n)
+}
+
+/// None from a later node to an earlier one, so that there is no cycle.
+fn forward(rng: &mut Rng, n: usize) -> Vec<Pair> {
+    forward_edges(rng, n, 4 * n)
 }
 
 fn ring(_: &mut Rng, n: usize) -> Vec<Pair> {

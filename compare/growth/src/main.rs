@@ -1,14 +1,11 @@
 //! Calls one function of the library a fixed number of times on one input, and holds its answer
 //! against a plain computation. The input is made before the first call, so the instructions of
 //! the function, divided by the calls, are the cost of one.
-mod archive;
 mod graphs;
 mod mark;
-mod plain;
+mod reconverge;
 mod run;
 mod scene;
-#[path = "../../compare/src/archive.rs"]
-mod scene_archive;
 mod search;
 mod sort;
 
@@ -22,7 +19,7 @@ use run::{Outcome, Run};
 /// With `--stack` all of it runs in a thread that has so much stack.
 const USAGE: &str = "growth [--stack KIB] sort N SEED
 growth [--stack KIB] search N SEED
-growth [--stack KIB] mark|check|feedback SHAPE N SEED";
+growth [--stack KIB] mark|reconverge|check|feedback SHAPE N SEED";
 
 fn misused() -> ! {
     let shapes = graphs::SHAPES.map(|shape| shape.0).join(", ");
@@ -57,6 +54,7 @@ fn run(words: &[&str]) -> Outcome {
             let edges = graphs::edges(&mut rng, shape, n).unwrap_or_else(|| misused());
             match name {
                 "mark" => mark::run(n, &edges),
+                "reconverge" => reconverge::run(&mut rng, n, &edges),
                 "check" => scene::check(&mut rng, n, edges),
                 "feedback" => scene::feedback(&mut rng, n, edges),
                 _ => misused(),

@@ -1,8 +1,8 @@
 //! The nodes that share their strongly connected component with another one.
 use generator::sketch::Pair;
+use library::marking::{Scratch, mark_shared_components};
+use plain::shared::shared_marks;
 
-use crate::archive::{Scratch, mark_shared_components};
-use crate::plain::shared_marks;
 use crate::run::{CALLS, Outcome, Run, compare};
 
 pub fn run(n: usize, edges: &[Pair]) -> Outcome {

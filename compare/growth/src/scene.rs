@@ -4,10 +4,10 @@ use generator::kinds::REPEATER;
 use generator::lists::SceneLists;
 use generator::rng::Rng;
 use generator::sketch::{Pair, Sketch};
+use library::checks::{CheckedNumbers, FeedbackNumbers, check_scene, feedback_scene};
+use plain::shared::shared_marks;
 
-use crate::plain::shared_marks;
 use crate::run::{CALLS, Outcome, Run, compare};
-use crate::scene_archive::{CheckedNumbers, FeedbackNumbers, check_scene, feedback_scene};
 
 /// The scene, and what list 4 holds: ids in component order.
 fn scene(rng: &mut Rng, n: usize, edges: Vec<Pair>) -> (SceneLists, Vec<u64>) {

@@ -1,7 +1,7 @@
 //! Keys looked up among ordered positions.
 use generator::rng::Rng;
+use library::ordering::find_position;
 
-use crate::archive::find_position;
 use crate::run::{Outcome, Run, compare};
 use crate::sort::{keys, ordered};
 

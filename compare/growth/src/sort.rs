@@ -1,7 +1,7 @@
 //! Positions sorted by key.
 use generator::rng::Rng;
+use library::ordering::sort_positions;
 
-use crate::archive::sort_positions;
 use crate::run::{CALLS, Outcome, Run, compare};
 
 /// Keys of which many are equal, so that the order among those shows.

@@ -1,12 +1,13 @@
 //! Lists 3 to 8.
 use generator::lists::SceneLists;
+use library::assessment::AssessNumbers;
 
 use super::graph::Graph;
 use super::labels::extremes;
 use super::projection::{compressed, projected};
 use super::reasons::{pattern, push_reasons, scope};
 use crate::answer::Assessed;
-use crate::calls::{AssessEntries, AssessNumbers};
+use crate::calls::AssessEntries;
 
 pub fn assessed(lists: &SceneLists) -> Assessed {
     let graph = Graph::new(lists);

@@ -1,9 +1,10 @@
 //! Lists 0 to 2.
 use generator::lists::{SUPPORT, SceneLists};
+use library::description::DescribeNumbers;
 
 use super::table::{behavior, delay, semantics};
 use crate::answer::Described;
-use crate::calls::{DescribeEntries, DescribeNumbers};
+use crate::calls::DescribeEntries;
 
 /// "Timed edges and evidence follow connection order; device evidence comes after it, in component
 /// order."

@@ -3,9 +3,10 @@ use dustroute_ir::{
     BehaviorPattern, SteadyStateEdge, SteadyStateProjection, TemporalAnalysis, TimingReason,
 };
 use dustroute_physical::ComponentId;
+use library::assessment::AssessNumbers;
 
 use crate::answer::{Assessed, ProjectedEdge};
-use crate::calls::{AssessEntries, AssessNumbers};
+use crate::calls::AssessEntries;
 
 /// The components' ids give list 5 its order.
 pub fn assessed(analysis: &TemporalAnalysis, ids: &[u64]) -> Assessed {

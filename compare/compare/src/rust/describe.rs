@@ -1,8 +1,9 @@
 //! Lists 0 to 2 of the Rust's analysis.
 use dustroute_ir::{TemporalAnalysis, TemporalDevice, TemporalEvidence, TimedEdge};
+use library::description::DescribeNumbers;
 
 use crate::answer::Described;
-use crate::calls::{DescribeEntries, DescribeNumbers};
+use crate::calls::DescribeEntries;
 
 pub fn described(analysis: &TemporalAnalysis) -> Described {
     let mut entries = DescribeEntries::default();

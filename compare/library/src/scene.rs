@@ -1,23 +1,6 @@
-//! The library's C functions. A slice is handed over as its pointer and its length.
-use generator::lists::SceneLists;
+//! Functions that take the ten lists of a scene and then more.
 
-#[repr(C)]
-#[derive(Clone, Copy, Debug, Eq, PartialEq)]
-pub struct CheckedNumbers {
-    pub number: u32,
-    pub place: u64,
-}
-
-#[repr(C)]
-#[derive(Clone, Copy, Debug, Eq, PartialEq)]
-pub struct FeedbackNumbers {
-    pub number: u32,
-    pub place: u64,
-    pub feedback: u64,
-    pub reasons: u64,
-}
-
-/// Declares a C function that takes the ten lists of a scene and then more.
+/// Declares such a C function.
 macro_rules! scene_function {
     ($name:ident($($more:tt: $type:ty),*) -> $result:ty) => {
         unsafe extern "C" {
@@ -38,10 +21,7 @@ macro_rules! scene_function {
     };
 }
 
-scene_function!(sizhbanto_check_scene(first: usize, room: *const usize, room_length: usize) -> CheckedNumbers);
-scene_function!(sizhbanto_feedback_scene(feedback: *mut u64, feedback_length: usize) -> FeedbackNumbers);
-
-/// Calls such a function with the ten lists of a scene and then more.
+/// Calls it with a scene and then more.
 macro_rules! call {
     ($name:ident($lists:expr, $($more:expr),*)) => {
         $name(
@@ -60,25 +40,24 @@ macro_rules! call {
     };
 }
 
-pub fn check_scene(lists: &SceneLists, first: usize, room: &[usize]) -> CheckedNumbers {
-    // every pointer and length is that of a slice that outlives the call
-    unsafe {
-        call!(sizhbanto_check_scene(
-            lists,
-            first,
-            room.as_ptr(),
-            room.len()
-        ))
-    }
-}
+/// Declares one that writes many number lists, the slices that these are lent as, and its call.
+macro_rules! scene_call {
+    ($function:ident as $call:ident($slices:ident) -> $numbers:ident {
+        $($field:ident: $type:ty = $list:literal,)*
+    }) => {
+        scene_function!($function($($field: *mut $type, _: usize),*) -> $numbers);
 
-pub fn feedback_scene(lists: &SceneLists, feedback: &mut [u64]) -> FeedbackNumbers {
-    // as above, and nothing else refers to the list that is written
-    unsafe {
-        call!(sizhbanto_feedback_scene(
-            lists,
-            feedback.as_mut_ptr(),
-            feedback.len()
-        ))
-    }
+        /// The number lists that the call is lent to write.
+        pub struct $slices<'a> {
+            $(pub $field: &'a mut [$type],)*
+        }
+
+        pub fn $call(scene: &SceneLists, lent: $slices) -> $numbers {
+            // every pointer and length is that of a slice that outlives the call, and nothing else
+            // refers to the lists that are written
+            unsafe {
+                call!($function(scene, $(lent.$field.as_mut_ptr(), lent.$field.len()),*))
+            }
+        }
+    };
 }
