@@ -4,15 +4,31 @@ use mathlib.Core.List.{List}
 use mathlib.Core.Path.{_≡_, sym, ap, _∙_}
 use Prim.Native.Nat.{ℕ}
 use native.Mathlib.Omega.{arith}
-use lib.ListN.{length, take}
-use lib.Seq.{take-at, length-take-le}
+use lib.ListN.{length, take, replicate, length-replicate}
+use lib.Seq.{length-take-le}
 use Rattle.rules.specs.Lists.{written}
+use Rattle.rules.specs.Refusals.{sceneLimits}
 use Rattle.rules.proofs.Indices.{made-length}
 use Rattle.rules.proofs.Written.{written-front}
 use Rattle.projection.specs.declared.Projected.{Projected}
 use Rattle.projection.specs.Projecting.{ProjectedLists, nodeLists, workLists, projectionFits, Projecting}
 use Rattle.projection.proofs.FitSteps.{fitting}
-use Rattle.assess.specs.Nodes.{delaysOf, invertsOf, compressibleOf, NodeRoom, NodesLent, ProjectionReady, WorkRoom}
+use Rattle.assess.specs.Nodes.{delaysOf, invertsOf, compressibleOf, NodesLent, ProjectionReady, WorkRoom}
+
+-- lists as long as the limits have room to work in
+pub fresh-room : WorkRoom (replicate (sceneLimits .components) 0) (replicate (sceneLimits .components) 0) (replicate (sceneLimits .components) 0) (replicate (sceneLimits .components) 0) (replicate (sceneLimits .connections) 0) (replicate (sceneLimits .components) 0) (replicate (sceneLimits .connections) 0)
+fresh-room =
+    let few = length-replicate {A = ℕ} (sceneLimits .components) 0 in
+    let many = length-replicate {A = ℕ} (sceneLimits .connections) 0 in
+    record {
+      low-room = omega (arith, few);
+      inverts-room = omega (arith, few);
+      compressible-room = omega (arith, few);
+      head-room = omega (arith, few);
+      next-room = omega (arith, many);
+      incoming-room = omega (arith, few);
+      firsts-room = omega (arith, many);
+    }
 
 delays-length : (kinds delays : List ℕ) → length (delaysOf kinds delays) ≡ length kinds
 unfolding delaysOf
@@ -28,14 +44,6 @@ compressible-length kinds = made-length _ (length kinds)
 
 module _ {ids kinds delays starts stops : List ℕ} {edges : ℕ} {order marks : List ℕ} {c : ProjectedLists} (ready : ProjectionReady ids kinds delays starts stops edges order marks c)
     {low inverts compressible head next incoming firsts : List ℕ} (work : WorkRoom low inverts compressible head next incoming firsts) where
-  pub node-room : NodeRoom kinds delays low inverts compressible
-  node-room = record {
-    delays-length = omega (arith, ready .kinds-length, ready .delays-length);
-    low-room = omega (arith, ready .kinds-length, ready .nodes-few, work .low-room);
-    inverts-room = omega (arith, ready .kinds-length, ready .nodes-few, work .inverts-room);
-    compressible-room = omega (arith, ready .kinds-length, ready .nodes-few, work .compressible-room);
-  }
-
   -- once the components are gone through
   module _ {low′ inverts′ compressible′ : List ℕ}
       (filled : (low′ ≡ written low (delaysOf kinds delays)) × ((inverts′ ≡ written inverts (invertsOf kinds)) × (compressible′ ≡ written compressible (compressibleOf kinds))))

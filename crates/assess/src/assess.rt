@@ -142,131 +142,6 @@ fn assessed(n: usize, reasons: ReasonsAssessed, projected: Projected) -> SceneAn
     })
 }
 
-// The call below, with lists to index the scene in.
-fn assess_indexed(
-    ids: &[u64],
-    kinds: &[u8],
-    delays: &[u16],
-    locked: &[u8],
-    xs: &[i32],
-    ys: &[i32],
-    zs: &[i32],
-    sources: &[u64],
-    sinks: &[u64],
-    transfers: &[u8],
-    order: &mut [usize],
-    starts: &mut [usize],
-    stops: &mut [usize],
-    reason_kinds: &mut [u8],
-    reason_components: &mut [u64],
-    reason_blocks: &mut [u8],
-    reason_minimums: &mut [u32],
-    reason_maximums: &mut [u32],
-    feedback_ids: &mut [u64],
-    marks: &mut [u8],
-    projected_sources: &mut [u64],
-    projected_sinks: &mut [u64],
-    projected_inverted: &mut [u8],
-    projected_minimums: &mut [u32],
-    projected_maximums: &mut [u32],
-    projected_starts: &mut [usize],
-    projected_lengths: &mut [usize],
-    path_ids: &mut [u64],
-    label_settled: &mut [u8],
-    label_lows: &mut [u32],
-    label_highs: &mut [u32],
-) -> SceneAnswer
-    requires { ⌜ IndexRoom (now order) (now starts) (now stops) ⌝ }
-    ensures { λ r. ⌜ AssessCall sceneLimits (componentLists (now (ids .entry)) (now (kinds .entry)) (now (delays .entry)) (now (locked .entry)) (now (xs .entry)) (now (ys .entry)) (now (zs .entry))) (connectionLists (now (sources .entry)) (now (sinks .entry)) (now (transfers .entry))) (assessLists (now («reason_kinds» .entry)) (now («reason_components» .entry)) (now («reason_blocks» .entry)) (now («reason_minimums» .entry)) (now («reason_maximums» .entry)) (now («feedback_ids» .entry)) (now (marks .entry)) (now («projected_sources» .entry)) (now («projected_sinks» .entry)) (now («projected_inverted» .entry)) (now («projected_minimums» .entry)) (now («projected_maximums» .entry)) (now («projected_starts» .entry)) (now («projected_lengths» .entry)) (now («path_ids» .entry)) (now («label_settled» .entry)) (now («label_lows» .entry)) (now («label_highs» .entry))) (assessLists (now («reason_kinds» .exit)) (now («reason_components» .exit)) (now («reason_blocks» .exit)) (now («reason_minimums» .exit)) (now («reason_maximums» .exit)) (now («feedback_ids» .exit)) (now (marks .exit)) (now («projected_sources» .exit)) (now («projected_sinks» .exit)) (now («projected_inverted» .exit)) (now («projected_minimums» .exit)) (now («projected_maximums» .exit)) (now («projected_starts» .exit)) (now («projected_lengths» .exit)) (now («path_ids» .exit)) (now («label_settled» .exit)) (now («label_lows» .exit)) (now («label_highs» .exit))) r ⌝ }
-{
-    let reason_lengths = [
-        reason_kinds.len(),
-        reason_components.len(),
-        reason_blocks.len(),
-        reason_minimums.len(),
-        reason_maximums.len(),
-    ];
-    let projection_lengths = [
-        projected_sources.len(),
-        projected_sinks.len(),
-        projected_inverted.len(),
-        projected_minimums.len(),
-        projected_maximums.len(),
-        projected_starts.len(),
-        projected_lengths.len(),
-    ];
-    let label_lengths = [label_settled.len(), label_lows.len(), label_highs.len()];
-    let tested = test_scene(
-        ids,
-        kinds,
-        delays,
-        locked,
-        xs,
-        ys,
-        zs,
-        sources,
-        sinks,
-        transfers,
-        &reason_lengths,
-        feedback_ids.len(),
-        marks.len(),
-        &projection_lengths,
-        path_ids.len(),
-        &label_lengths,
-        order,
-        starts,
-        stops,
-    );
-    let checked = tested.checked;
-    let edges = tested.edges;
-    match checked {
-        Checked::Refused { number, place } => SceneAnswer::Refused {
-            number: number,
-            place: place,
-        },
-        Checked::Accepted => {
-            let reasons = reason_scene(
-                ids,
-                kinds,
-                delays,
-                locked,
-                starts,
-                stops,
-                edges,
-                order,
-                reason_kinds,
-                reason_components,
-                reason_blocks,
-                reason_minimums,
-                reason_maximums,
-                feedback_ids,
-                label_settled,
-                label_lows,
-                label_highs,
-            );
-            let projected = project_scene(
-                ids,
-                kinds,
-                delays,
-                starts,
-                stops,
-                edges,
-                order,
-                marks,
-                projected_sources,
-                projected_sinks,
-                projected_inverted,
-                projected_minimums,
-                projected_maximums,
-                projected_starts,
-                projected_lengths,
-                path_ids,
-            );
-            assessed(ids.len(), reasons, projected)
-        }
-    }
-}
-
 // Writes the reasons, Feedback ids, marks, projected edges, paths and labels of a scene, or refuses the scene and
 // leaves every list as it was.
 pub fn assess_scene(
@@ -304,7 +179,24 @@ pub fn assess_scene(
     let mut order = [0usize; MAX_COMPONENTS];
     let mut starts = [0usize; MAX_CONNECTIONS];
     let mut stops = [0usize; MAX_CONNECTIONS];
-    assess_indexed(
+    let reason_lengths = [
+        reason_kinds.len(),
+        reason_components.len(),
+        reason_blocks.len(),
+        reason_minimums.len(),
+        reason_maximums.len(),
+    ];
+    let projection_lengths = [
+        projected_sources.len(),
+        projected_sinks.len(),
+        projected_inverted.len(),
+        projected_minimums.len(),
+        projected_maximums.len(),
+        projected_starts.len(),
+        projected_lengths.len(),
+    ];
+    let label_lengths = [label_settled.len(), label_lows.len(), label_highs.len()];
+    let tested = test_scene(
         ids,
         kinds,
         delays,
@@ -315,26 +207,62 @@ pub fn assess_scene(
         sources,
         sinks,
         transfers,
+        &reason_lengths,
+        feedback_ids.len(),
+        marks.len(),
+        &projection_lengths,
+        path_ids.len(),
+        &label_lengths,
         &mut order,
         &mut starts,
         &mut stops,
-        reason_kinds,
-        reason_components,
-        reason_blocks,
-        reason_minimums,
-        reason_maximums,
-        feedback_ids,
-        marks,
-        projected_sources,
-        projected_sinks,
-        projected_inverted,
-        projected_minimums,
-        projected_maximums,
-        projected_starts,
-        projected_lengths,
-        path_ids,
-        label_settled,
-        label_lows,
-        label_highs,
-    )
+    );
+    let checked = tested.checked;
+    let edges = tested.edges;
+    match checked {
+        Checked::Refused { number, place } => SceneAnswer::Refused {
+            number: number,
+            place: place,
+        },
+        Checked::Accepted => {
+            let reasons = reason_scene(
+                ids,
+                kinds,
+                delays,
+                locked,
+                &starts,
+                &stops,
+                edges,
+                &order,
+                reason_kinds,
+                reason_components,
+                reason_blocks,
+                reason_minimums,
+                reason_maximums,
+                feedback_ids,
+                label_settled,
+                label_lows,
+                label_highs,
+            );
+            let projected = project_scene(
+                ids,
+                kinds,
+                delays,
+                &starts,
+                &stops,
+                edges,
+                &order,
+                marks,
+                projected_sources,
+                projected_sinks,
+                projected_inverted,
+                projected_minimums,
+                projected_maximums,
+                projected_starts,
+                projected_lengths,
+                path_ids,
+            );
+            assessed(ids.len(), reasons, projected)
+        }
+    }
 }

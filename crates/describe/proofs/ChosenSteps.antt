@@ -6,7 +6,6 @@ use Prim.Native.Nat.{ℕ, _+_, _<_, _≤_}
 use native.Mathlib.Omega.{arith}
 use lib.IntN.{ℤ}
 use lib.ListN.{length, set, take, length-append}
-use lib.Seq.{take-at}
 use Rattle.rules.specs.Kinds.{kindRow, isDevice}
 use Rattle.rules.specs.Lists.{keep, from, indices, written}
 use Rattle.rules.specs.Ordered.{keyAt}

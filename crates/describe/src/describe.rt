@@ -62,8 +62,8 @@ fn test_scene(
     )
 }
 
-// The call below, with lists to index the scene in.
-fn describe_indexed(
+// Writes the timed edges, devices and evidence of a scene, or refuses the scene and leaves every list as it was.
+pub fn describe_scene(
     ids: &[u64],
     kinds: &[u8],
     delays: &[u16],
@@ -74,9 +74,6 @@ fn describe_indexed(
     sources: &[u64],
     sinks: &[u64],
     transfers: &[u8],
-    order: &mut [usize],
-    starts: &mut [usize],
-    stops: &mut [usize],
     edge_sources: &mut [u64],
     edge_sinks: &mut [u64],
     edge_minimums: &mut [u32],
@@ -94,9 +91,11 @@ fn describe_indexed(
     evidence_components: &mut [u64],
     evidence_blocks: &mut [u8],
 ) -> Description
-    requires { ⌜ IndexRoom (now order) (now starts) (now stops) ⌝ }
     ensures { λ r. ⌜ DescribeCall sceneLimits (componentLists (now (ids .entry)) (now (kinds .entry)) (now (delays .entry)) (now (locked .entry)) (now (xs .entry)) (now (ys .entry)) (now (zs .entry))) (connectionLists (now (sources .entry)) (now (sinks .entry)) (now (transfers .entry))) (describeLists (now («edge_sources» .entry)) (now («edge_sinks» .entry)) (now («edge_minimums» .entry)) (now («edge_maximums» .entry)) (now («edge_behaviors» .entry)) (now («device_components» .entry)) (now («device_xs» .entry)) (now («device_ys» .entry)) (now («device_zs» .entry)) (now («device_semantics» .entry)) (now («device_delays» .entry)) (now («evidence_kinds» .entry)) (now («evidence_sources» .entry)) (now («evidence_sinks» .entry)) (now («evidence_components» .entry)) (now («evidence_blocks» .entry))) (describeLists (now («edge_sources» .exit)) (now («edge_sinks» .exit)) (now («edge_minimums» .exit)) (now («edge_maximums» .exit)) (now («edge_behaviors» .exit)) (now («device_components» .exit)) (now («device_xs» .exit)) (now («device_ys» .exit)) (now («device_zs» .exit)) (now («device_semantics» .exit)) (now («device_delays» .exit)) (now («evidence_kinds» .exit)) (now («evidence_sources» .exit)) (now («evidence_sinks» .exit)) (now («evidence_components» .exit)) (now («evidence_blocks» .exit))) r ⌝ }
 {
+    let mut order = [0usize; MAX_COMPONENTS];
+    let mut starts = [0usize; MAX_CONNECTIONS];
+    let mut stops = [0usize; MAX_CONNECTIONS];
     let edge_lengths = [
         edge_sources.len(),
         edge_sinks.len(),
@@ -133,9 +132,9 @@ fn describe_indexed(
         &edge_lengths,
         &device_lengths,
         &evidence_lengths,
-        order,
-        starts,
-        stops,
+        &mut order,
+        &mut starts,
+        &mut stops,
     );
     let checked = tested.checked;
     let edges = tested.edges;
@@ -185,71 +184,4 @@ fn describe_indexed(
             }
         }
     }
-}
-
-// Writes the timed edges, devices and evidence of a scene, or refuses the scene and leaves every list as it was.
-pub fn describe_scene(
-    ids: &[u64],
-    kinds: &[u8],
-    delays: &[u16],
-    locked: &[u8],
-    xs: &[i32],
-    ys: &[i32],
-    zs: &[i32],
-    sources: &[u64],
-    sinks: &[u64],
-    transfers: &[u8],
-    edge_sources: &mut [u64],
-    edge_sinks: &mut [u64],
-    edge_minimums: &mut [u32],
-    edge_maximums: &mut [u32],
-    edge_behaviors: &mut [u8],
-    device_components: &mut [u64],
-    device_xs: &mut [i32],
-    device_ys: &mut [i32],
-    device_zs: &mut [i32],
-    device_semantics: &mut [u8],
-    device_delays: &mut [u32],
-    evidence_kinds: &mut [u8],
-    evidence_sources: &mut [u64],
-    evidence_sinks: &mut [u64],
-    evidence_components: &mut [u64],
-    evidence_blocks: &mut [u8],
-) -> Description
-    ensures { λ r. ⌜ DescribeCall sceneLimits (componentLists (now (ids .entry)) (now (kinds .entry)) (now (delays .entry)) (now (locked .entry)) (now (xs .entry)) (now (ys .entry)) (now (zs .entry))) (connectionLists (now (sources .entry)) (now (sinks .entry)) (now (transfers .entry))) (describeLists (now («edge_sources» .entry)) (now («edge_sinks» .entry)) (now («edge_minimums» .entry)) (now («edge_maximums» .entry)) (now («edge_behaviors» .entry)) (now («device_components» .entry)) (now («device_xs» .entry)) (now («device_ys» .entry)) (now («device_zs» .entry)) (now («device_semantics» .entry)) (now («device_delays» .entry)) (now («evidence_kinds» .entry)) (now («evidence_sources» .entry)) (now («evidence_sinks» .entry)) (now («evidence_components» .entry)) (now («evidence_blocks» .entry))) (describeLists (now («edge_sources» .exit)) (now («edge_sinks» .exit)) (now («edge_minimums» .exit)) (now («edge_maximums» .exit)) (now («edge_behaviors» .exit)) (now («device_components» .exit)) (now («device_xs» .exit)) (now («device_ys» .exit)) (now («device_zs» .exit)) (now («device_semantics» .exit)) (now («device_delays» .exit)) (now («evidence_kinds» .exit)) (now («evidence_sources» .exit)) (now («evidence_sinks» .exit)) (now («evidence_components» .exit)) (now («evidence_blocks» .exit))) r ⌝ }
-{
-    let mut order = [0usize; MAX_COMPONENTS];
-    let mut starts = [0usize; MAX_CONNECTIONS];
-    let mut stops = [0usize; MAX_CONNECTIONS];
-    describe_indexed(
-        ids,
-        kinds,
-        delays,
-        locked,
-        xs,
-        ys,
-        zs,
-        sources,
-        sinks,
-        transfers,
-        &mut order,
-        &mut starts,
-        &mut stops,
-        edge_sources,
-        edge_sinks,
-        edge_minimums,
-        edge_maximums,
-        edge_behaviors,
-        device_components,
-        device_xs,
-        device_ys,
-        device_zs,
-        device_semantics,
-        device_delays,
-        evidence_kinds,
-        evidence_sources,
-        evidence_sinks,
-        evidence_components,
-        evidence_blocks,
-    )
 }

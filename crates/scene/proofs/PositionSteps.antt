@@ -56,6 +56,10 @@ pub room-fits : (order starts stops : List ℕ) → IndexRoom order starts stops
 unfolding positionsFit
 room-fits order starts stops r = simp (le-leb _ _ (r .order-room), le-leb _ _ (r .starts-room), le-leb _ _ (r .stops-room))
 
+-- lists as long as the limits have room for every scene
+pub room-of : (order starts stops : List ℕ) → sceneLimits .components ≡ length order → sceneLimits .connections ≡ length starts → sceneLimits .connections ≡ length stops → IndexRoom order starts stops
+room-of order starts stops o s t = record { order-room = omega (arith, o); starts-room = omega (arith, s); stops-room = omega (arith, t) }
+
 -- lists of other contents and the same lengths have the same room
 pub room-kept : {order starts stops order′ starts′ stops′ : List ℕ} → IndexRoom order starts stops → length order′ ≡ length order → length starts′ ≡ length starts → length stops′ ≡ length stops → IndexRoom order′ starts′ stops′
 room-kept r p q s = record { order-room = omega (arith, r .order-room); starts-room = omega (arith, r .starts-room); stops-room = omega (arith, r .stops-room) }

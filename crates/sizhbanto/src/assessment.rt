@@ -7,9 +7,7 @@ ghost use Rattle.rules.specs.Refusals.{sceneLimits};
 ghost use Rattle.rules.specs.Assess.{assessLists, sceneNumbers, AssessCall};
 ghost use Rattle.rules.specs.declared.answers.SceneAnswer.{SceneAnswer};
 use assess::assess::assess_scene;
-use rules::answers::BehaviorPattern;
 use rules::answers::SceneAnswer;
-use rules::answers::TemporalScope;
 use tables::codes::pattern_code;
 use tables::codes::scope_code;
 

@@ -3,9 +3,6 @@ use borrow.Author.Needs.{needs}
 use Rattle.scene.proofs.IndexSteps.{checked-as}
 use Rattle.scene.proofs.check.check_scene.Statement.{statement}
 use Rattle.scene.proofs.check.check_scene.Tie as tie
-use Rattle.scene.proofs.check.check_scene.Reads as reads
-use Rattle.scene.proofs.check.check_scene.Lts as lts
-use Rattle.scene.proofs.index.index_scene.Reads as index-scene-reads
 
 -- src/check.rt:45:9
 slice-aggregate-index-scene : tie.Need-slice-aggregate-index-scene

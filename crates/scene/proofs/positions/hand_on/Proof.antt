@@ -5,9 +5,6 @@ use lib.Seq.{length-take-le}
 use borrow.Author.Needs.{needs}
 use Rattle.scene.proofs.positions.hand_on.Statement.{statement}
 use Rattle.scene.proofs.positions.hand_on.Tie as tie
-use Rattle.scene.proofs.positions.hand_on.Reads as reads
-use Rattle.scene.proofs.positions.hand_on.Lts as lts
-use Rattle.scene.proofs.positions.write_front.Reads as write-front-reads
 
 -- src/positions.rt:65:17
 slice-aggregate-write-front : tie.Need-slice-aggregate-write-front

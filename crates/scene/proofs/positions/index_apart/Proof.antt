@@ -1,5 +1,4 @@
 -- The scene is indexed apart, and where it is accepted its positions are handed on. Assumes nothing.
-use mathlib.Core.Path.{sym}
 use lib.ListN.{length}
 use Rattle.rules.specs.Scene.{componentLists, connectionLists}
 use Rattle.rules.specs.Refusals.{roomOutputs}
@@ -7,10 +6,6 @@ use Rattle.scene.proofs.PositionSteps.{room-kept, given-refused, found-
 use borrow.Author.Needs.{needs}
 use Rattle.scene.proofs.positions.index_apart.Statement.{statement}
 use Rattle.scene.proofs.positions.index_apart.Tie as tie
-use Rattle.scene.proofs.positions.index_apart.Reads as reads
-use Rattle.scene.proofs.positions.index_apart.Lts as lts
-use Rattle.scene.proofs.index.index_scene.Reads as index-scene-reads
-use Rattle.scene.proofs.positions.hand_on.Reads as hand-on-reads
 
 -- src/positions.rt:95:9
 index-scene-requires : tie.Need-index-scene-requires
