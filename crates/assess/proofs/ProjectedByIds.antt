@@ -6,7 +6,7 @@ use Prim.Native.Nat.{ℕ, _<_}
 use native.Mathlib.Omega.{arith}
 use lib.Dec.{eqb}
 use lib.ListN.{length, getD}
-use Rattle.rules.specs.Lists.{count, indices, rising}
+use Rattle.rules.specs.Lists.{count, indices, rising, Distinct}
 use Rattle.rules.specs.Ordered.{keyAt, ordered}
 use Rattle.rules.specs.Positions.{idAt, Positioned}
 use Rattle.rules.specs.Graph.{Edge, inCount, outCount}
@@ -15,7 +15,6 @@ use Rattle.rules.specs.Scene.{ComponentLists, componentAt, componentsOf, rising
 use Rattle.rules.specs.Projection.{compressibleKind, compressed, marks, isDelayedInvert, projected}
 use Rattle.rules.proofs.Columns.{component-ids}
 use Rattle.rules.proofs.Counts.{count-map, count-same}
-use Rattle.rules.proofs.Distinct.{Distinct}
 use Rattle.rules.proofs.Indices.{indices-below, made-at}
 use Rattle.rules.proofs.Ordering.{ordered-rising}
 use Rattle.laws.proofs.ByPosition.{compressed-by-position}

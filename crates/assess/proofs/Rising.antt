@@ -9,7 +9,7 @@ use lib.ListN.{length}
 use borrow.Author.Tests.{lt-ltb}
 use Rattle.rules.specs.Ordered.{keyAt, ordered, Ordered}
 use Rattle.rules.specs.Positions.{idAt}
-use Rattle.rules.proofs.Distinct.{Distinct}
+use Rattle.rules.specs.Lists.{Distinct}
 use Rattle.rules.proofs.Indices.{indices-below, distinct-at}
 use Rattle.rules.proofs.Ordering.{ordered-perm, ordered-holds}
 use Rattle.rules.proofs.Permutations.{perm-mem}

@@ -13,7 +13,7 @@ use Rattle.rules.specs.Scene.{ComponentLists, componentLists, ConnectionLists, 
 use Rattle.rules.specs.Labels.{settledFlag, lowSum, highSum}
 use Rattle.rules.specs.Reasons.{reasonKind, reasonComponent, reasonBlock, reasonMinimum, reasonMaximum}
 use Rattle.rules.specs.Projection.{compressed, pathIds, pathStarts, pathLength}
-use Rattle.rules.specs.Refusals.{sceneLimits, roomOutputs, shortest}
+use Rattle.rules.specs.Refusals.{sceneLimits, roomOutputs, shortest, EachListed}
 use Rattle.rules.specs.Assess.{sceneAnswer, sceneNumbers, assessOutputs, checkAssess, assessment, AssessLists, assessChecked, AssessedBy, AssessCall}
 use Rattle.rules.specs.declared.answers.Checked.{Checked}
 use Rattle.rules.specs.declared.answers.Checked.the-variants.{Accepted, Refused}
@@ -23,7 +23,7 @@ use Rattle.rules.proofs.Acceptance.{AcceptedScene, accepted→}
 use Rattle.rules.proofs.Counts.{count-both}
 use Rattle.rules.proofs.Columns.{components-length}
 use Rattle.rules.proofs.Ordering.{ordered-below, ordered-length}
-use Rattle.rules.proofs.Shortest.{EachListed, shortest-assess}
+use Rattle.rules.proofs.Shortest.{shortest-assess}
 use Rattle.laws.proofs.PositionEdges.{inside-sources, inside-sinks}
 use Rattle.graph.specs.Adjacency.{Below}
 use Rattle.projection.specs.declared.Projected.{Projected}

@@ -4,7 +4,7 @@ use mathlib.Core.Path.{_≡_, refl, sym, ap, ap₂, _∙_}
 use Prim.Native.Nat.{ℕ, _<_}
 use native.Mathlib.Omega.{arith}
 use lib.ListN.{length}
-use Rattle.rules.specs.Lists.{keep, indices}
+use Rattle.rules.specs.Lists.{keep, indices, Distinct}
 use Rattle.rules.specs.Ordered.{keyAt}
 use Rattle.rules.specs.Positions.{idAt, named, Positioned}
 use Rattle.rules.specs.Graph.{Edge, edgesBetween, sourceOf, sinkOf}
@@ -13,7 +13,6 @@ use Rattle.rules.specs.Codes.{behaviorCode}
 use Rattle.rules.specs.Scene.{Component, Connection, ComponentLists, ConnectionLists, componentAt, componentsOf, connectionsOf, isEdge, edgeOf, edgesOf, rowOf, delayOf, rowAt, delayAt}
 use Rattle.rules.specs.Describe.{timedEdge, timedEdges, TemporalDevice, temporalDevice, deviceComponents, devices, Evidence, connectionEvidence, deviceEvidence, evidence, evidenceKind, evidenceSource, evidenceSink, evidenceComponent, evidenceBlock}
 use Rattle.rules.proofs.Lists.{keep-map, map-same}
-use Rattle.rules.proofs.Distinct.{Distinct}
 use Rattle.rules.proofs.Indices.{mem-at}
 use Rattle.rules.proofs.Columns.{ConnectionsAligned, connection-sources, connection-columns}
 use Rattle.laws.proofs.PositionEdges.{edgesBetween-sources, edgesBetween-sinks, inside-sources}

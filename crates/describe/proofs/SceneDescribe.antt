@@ -9,13 +9,13 @@ use lib.Seq.{length-take-le}
 use Rattle.rules.specs.Lists.{written}
 use Rattle.rules.specs.Ordered.{keyAt}
 use Rattle.rules.specs.Scene.{ComponentLists, ConnectionLists, componentAt, rowOf, delayOf, componentsOf, connectionsOf, sceneOf}
-use Rattle.rules.specs.Refusals.{sceneLimits, roomOutputs, shortest}
+use Rattle.rules.specs.Refusals.{sceneLimits, roomOutputs, shortest, EachListed}
 use Rattle.rules.specs.Describe.{description, descriptionNumbers, timedEdges, temporalDevice, devices, evidence, evidenceKind, describeOutputs, checkDescribe, DescribeLists, describeChecked, DescribedBy, DescribeCall}
 use Rattle.rules.specs.declared.answers.Checked.{Checked}
 use Rattle.rules.specs.declared.answers.Checked.the-variants.{Accepted, Refused}
 use Rattle.rules.specs.declared.answers.Description.the-variants as Answer
 use Rattle.rules.proofs.Acceptance.{AcceptedScene, accepted→}
-use Rattle.rules.proofs.Shortest.{EachListed, shortest-describe}
+use Rattle.rules.proofs.Shortest.{shortest-describe}
 use Rattle.laws.proofs.PositionEdges.{inside-sources, inside-sinks}
 use Rattle.scene.specs.Indexed.{IndexRoom, Positions}
 use Rattle.scene.specs.ScenePositions.{ScenePositioned, Tested}

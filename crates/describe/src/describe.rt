@@ -1,9 +1,8 @@
 // The call that writes lists 0, 1 and 2.
 ghost use mathlib.Core.List.{[], _∷_};
 ghost use Rattle.rules.specs.Scene.{componentLists, connectionLists};
-ghost use Rattle.rules.specs.Refusals.{sceneLimits};
+ghost use Rattle.rules.specs.Refusals.{sceneLimits, EachListed};
 ghost use Rattle.rules.specs.Describe.{checkDescribe, describeLists, DescribeCall};
-ghost use Rattle.rules.proofs.Shortest.{EachListed};
 ghost use Rattle.scene.specs.Indexed.{IndexRoom};
 ghost use Rattle.scene.specs.ScenePositions.{Tested};
 use crate::components::list_components;

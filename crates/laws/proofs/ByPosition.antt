@@ -5,7 +5,7 @@ use mathlib.Core.Path.{_≡_, ap, _∙_}
 use Prim.Native.Nat.{ℕ, _<_}
 use lib.Dec.{eqb}
 use lib.ListN.{length, getD}
-use Rattle.rules.specs.Lists.{keep, indices}
+use Rattle.rules.specs.Lists.{keep, indices, Distinct}
 use Rattle.rules.specs.Graph.{Edge, sourceOf, sinkOf, startsAt, inCount, outCount}
 use Rattle.rules.specs.Scene.{ComponentLists, componentAt, componentsOf, rowOf, delayOf, rowAt, delayAt, risingIds}
 use Rattle.rules.specs.Paths.{smallestSum, largestSum}
@@ -13,7 +13,6 @@ use Rattle.rules.specs.Labels.{label, labels}
 use Rattle.rules.specs.Reasons.{unequalReconvergentDelay, unequalAt, unequalReason, unequalReasonsBy, unequalReasons}
 use Rattle.rules.specs.Projection.{compressibleKind, compressed, marks, chain, isDelayedInvert, invertsAt, projectedBy, projected}
 use Rattle.rules.proofs.Lists.{keep-out, keep-same, keep-map, map-same}
-use Rattle.rules.proofs.Distinct.{Distinct}
 use Rattle.rules.proofs.Indices.{indices-below, below-indices, by-index, distinct-at}
 use Rattle.rules.proofs.Columns.{component-ids}
 use Rattle.rules.proofs.Scenes.{DistinctIds, row-at, delay-at}

@@ -7,13 +7,13 @@ use Prim.Native.Nat.{ℕ, zero, suc, _+_, _≤_}
 use native.Mathlib.Omega.{arith}
 use lib.Dec.{T, eqb→eq}
 use lib.ListN.{length, getD, length-append, length-map}
-use Rattle.rules.specs.Lists.{keep}
+use Rattle.rules.specs.Lists.{keep, Distinct}
 use Rattle.rules.specs.Graph.{Edge, _⟶_, sourceOf, sinkOf, startsAt, endsAt, inCount, outCount}
 use Rattle.rules.specs.Scene.{Component}
 use Rattle.rules.specs.Projection.{compressed, next, chain, chainFrom, beforeLast, lastOf}
 use Rattle.rules.proofs.Lists.{tests, keep-in, keep-out, eq-test}
 use Rattle.rules.proofs.Permutations.{keep-length}
-use Rattle.rules.proofs.Distinct.{pigeon, Distinct}
+use Rattle.rules.proofs.Distinct.{pigeon}
 
 -- Rows by their last
 

@@ -6,7 +6,7 @@ use mathlib.Core.Logic.{⊎-elim}
 use Prim.Native.Nat.{ℕ, _≤_}
 use native.Mathlib.Omega.{arith}
 use lib.Dec.{T, T-not, not-T, eqb, eqb→eq, eqb-refl}
-use Rattle.rules.specs.Lists.{keep, count}
+use Rattle.rules.specs.Lists.{keep, count, Distinct}
 use Rattle.rules.specs.Scene.{Component, ComponentLists, ConnectionLists, componentsOf, connectionsOf, idOf, hasId, edgesOf, delayAt, risingIds}
 use Rattle.rules.specs.Graph.{Edge, sourceOf, startsAt, stronglyConnected}
 use Rattle.rules.specs.Reasons.{inFeedback, feedback, reasonComponent, unequalAt, unequalReason, unequalReasonsBy, unequalReasons}
@@ -14,7 +14,6 @@ use Rattle.rules.specs.Projection.{compressed, retained, firstEdges, beforeLast
 use Rattle.rules.specs.Refusals.{SceneLimits, Output, checkScene}
 use Rattle.rules.specs.declared.answers.Checked.the-variants.{Accepted}
 use Rattle.rules.proofs.Lists.{and-left, and-right, and-both, eq-test, keep-in, keep-out, flat-out}
-use Rattle.rules.proofs.Distinct.{Distinct}
 use Rattle.rules.proofs.Permutations.{perm-mem}
 use Rattle.rules.proofs.Counts.{count-append, count-none, count-keep, count-under, count-split, count-map, distinct-once, distinct-keep}
 use Rattle.rules.proofs.Sorting.{Rising, rising-rises, rising-ids-perm, rising-ids-distinct}

@@ -7,12 +7,11 @@ use Prim.Native.Nat.{ℕ, zero, suc, _<_}
 use native.Mathlib.Omega.{arith}
 use lib.Dec.{T, eqb}
 use lib.ListN.{length, getD}
-use Rattle.rules.specs.Lists.{keep, indices}
+use Rattle.rules.specs.Lists.{keep, indices, Distinct}
 use Rattle.rules.specs.Graph.{Edge, _⟶_, sourceOf, sinkOf, stronglyConnected, edgesBetween, sharesComponent, sharedMarks}
 use Rattle.rules.specs.Scene.{Connection, ComponentLists, componentAt, componentsOf, isEdge, edgeOf, edgesOf, idOf, rowOf}
 use Rattle.rules.specs.Reasons.{passive, otherIn, inFeedback, feedback}
 use Rattle.rules.proofs.Lists.{chosen, not-chosen, any-same, any-map, keep-same, keep-map, keep-append}
-use Rattle.rules.proofs.Distinct.{Distinct}
 use Rattle.rules.specs.Positions.{idAt, named, Inside, Positioned}
 use Rattle.rules.proofs.Indices.{at-mem, indices-below, distinct-at}
 use Rattle.rules.proofs.SharedComponents.{marks-at}

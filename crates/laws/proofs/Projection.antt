@@ -6,12 +6,12 @@ use Prim.Native.Nat.{ℕ, zero, suc, _+_, _*_, _≤_, zero-le}
 use native.Mathlib.Omega.{arith}
 use lib.Dec.{T, T-not, not-T, eqb→eq, eqb-refl}
 use lib.ListN.{length, length-append, length-map}
-use Rattle.rules.specs.Lists.{keep, count}
+use Rattle.rules.specs.Lists.{keep, count, Distinct}
 use Rattle.rules.specs.Graph.{Edge, sourceOf, sinkOf, startsAt, endsAt, inCount, outCount}
 use Rattle.rules.specs.Scene.{Component, idOf, delayAt, risingIds}
 use Rattle.rules.specs.Projection.{compressed, marks, retained, firstEdges, next, chain, chainFrom, lastOf, invertsAt, projectedBy, projectedAlong, projected, pathIds}
 use Rattle.rules.proofs.Lists.{and-both, keep-in, keep-out, flat-out}
-use Rattle.rules.proofs.Distinct.{pigeon, Distinct}
+use Rattle.rules.proofs.Distinct.{pigeon}
 use Rattle.rules.proofs.Permutations.{perm-mem, perm-length, perm-keep, keep-length, one-same, perm-map, perm-flat, flat-order}
 use Rattle.rules.proofs.Counts.{count-append, count-every, count-keep, count-under, count-split, Once, distinct-keep, distinct-flat}
 use Rattle.rules.proofs.Sorting.{rising-ids-perm, rising-ids-distinct}

@@ -7,7 +7,7 @@ use native.Mathlib.Omega.{arith}
 use native.Mathlib.Nat.{mul-suc}
 use lib.Dec.{T, eqb, eqb→eq, eqb-refl}
 use lib.ListN.{length, getD, length-map, length-append}
-use Rattle.rules.specs.Lists.{any, keep, count, rising, indices, sum}
+use Rattle.rules.specs.Lists.{any, keep, count, rising, indices, sum, Distinct}
 use Rattle.rules.specs.Codes.{unitOf, verdictCode}
 use Rattle.rules.specs.Pulses.{Event, Pulse, eventsOf, isPulse, pulseOf, pulsesIn, pulses, ofComponent, eventComponents}
 use Rattle.rules.specs.Verdicts.{Finding, findingOf, findings, findingVerdict, tally, tallies, contractsOf}
@@ -19,7 +19,6 @@ use Rattle.rules.specs.declared.transient.TransientVerdict.{TransientVerdict}
 use Rattle.rules.specs.declared.transient.TransientVerdict.the-variants.{PulseObserved, TransientDeviation, HazardCandidate, HazardConfirmed, IntentionalPulse}
 use Rattle.rules.specs.declared.transient.TransientRecord.{TransientRecord}
 use Rattle.rules.proofs.Lists.{any-in, any-out}
-use Rattle.rules.proofs.Distinct.{Distinct}
 use Rattle.rules.proofs.Counts.{count-or, once-distinct, count-none, count-under, count-every}
 use Rattle.rules.proofs.Permutations.{keep-length}
 use Rattle.rules.proofs.Indices.{from-distinct, below-indices, made-length, by-index}

@@ -7,13 +7,12 @@ use native.Mathlib.Omega.{arith}
 use lib.Dec.{T, T-not}
 use lib.ListN.{length, take, drop, length-append, length-map}
 use lib.Seq.{length-take-le, length-front, take-at}
-use Rattle.rules.specs.Lists.{keep, written}
+use Rattle.rules.specs.Lists.{keep, written, Distinct}
 use Rattle.rules.specs.Ordered.{keyAt}
 use Rattle.rules.specs.Positions.{namedEntry, idAt}
 use Rattle.rules.specs.Graph.{Edge, sourceOf, sinkOf, startsAt, inCount, outCount}
 use Rattle.rules.specs.Projection.{ProjectedEdge, chain, projectedBy, pathIds}
 use Rattle.rules.proofs.Lists.{keep-out, flat-out}
-use Rattle.rules.proofs.Distinct.{Distinct}
 use Rattle.rules.proofs.Written.{written-parts, written-front}
 use Rattle.graph.specs.Adjacency.{leaving}
 use Rattle.projection.specs.Entries.{nodeMarks, invertsFrom, projectedEntries}

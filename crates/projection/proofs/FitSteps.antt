@@ -9,10 +9,9 @@ use native.Mathlib.Omega.{arith}
 use borrow.Author.Tests.{eqb-true, ltb-true, ltb-false, leb-true, not-false, lt-ltb, le-ltb, le-leb, lt-leb, eq-eqb, ne-eqb}
 use lib.Dec.{T, eqb, leb, ltb}
 use lib.ListN.{length, getD, length-map}
-use Rattle.rules.specs.Lists.{any}
+use Rattle.rules.specs.Lists.{any, Distinct}
 use Rattle.rules.specs.Positions.{idAt}
 use Rattle.rules.proofs.Lists.{any-in, any-out}
-use Rattle.rules.proofs.Distinct.{Distinct}
 use Rattle.rules.proofs.Indices.{at-mem, mem-at, map-at}
 use Rattle.graph.specs.Adjacency.{Below}
 use Rattle.graph.specs.Fits.{endsBelow}

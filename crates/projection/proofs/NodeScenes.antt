@@ -8,14 +8,14 @@ use native.Mathlib.Omega.{arith}
 use lib.Dec.{T, T-not, eqb, eqb→eq, eqb-refl}
 use lib.IntN.{pos}
 use lib.ListN.{length, length-append}
-use Rattle.rules.specs.Lists.{keep, count, indices}
+use Rattle.rules.specs.Lists.{keep, count, indices, Distinct}
 use Rattle.rules.specs.Kinds.{kindRow}
 use Rattle.rules.specs.Scene.{Component, idOf, rowOf, rowAt}
 use Rattle.rules.specs.Graph.{Edge, sourceOf, sinkOf, startsAt, endsAt, inCount, outCount}
 use Rattle.rules.specs.Positions.{Inside}
 use Rattle.rules.specs.Projection.{compressibleKind, compressed, chain, chainFrom, lastOf}
 use Rattle.rules.proofs.Lists.{and-left, and-both, same-test, eq-test, keep-out, flat-out}
-use Rattle.rules.proofs.Distinct.{Distinct, distinct-append}
+use Rattle.rules.proofs.Distinct.{distinct-append}
 use Rattle.rules.proofs.Indices.{from-distinct, below-indices}
 use Rattle.rules.proofs.Permutations.{keep-length}
 use Rattle.rules.proofs.Counts.{count-every, count-none, Once, distinct-keep, distinct-flat}

@@ -6,14 +6,13 @@ use mathlib.Core.Path.{_≡_, ap, _∙_}
 use Prim.Native.Nat.{ℕ, _<_}
 use lib.Dec.{eqb}
 use lib.ListN.{length}
-use Rattle.rules.specs.Lists.{indices}
+use Rattle.rules.specs.Lists.{indices, Distinct}
 use Rattle.rules.specs.Ordered.{keyAt}
 use Rattle.rules.specs.Positions.{idAt, Positioned}
 use Rattle.rules.specs.Graph.{Edge, inCount, outCount}
 use Rattle.rules.specs.Scene.{ComponentLists, componentAt, componentsOf, rowOf, delayOf, risingIds}
 use Rattle.rules.specs.Projection.{compressibleKind, isDelayedInvert, marks, projected}
 use Rattle.rules.proofs.Lists.{map-same}
-use Rattle.rules.proofs.Distinct.{Distinct}
 use Rattle.rules.proofs.Indices.{indices-below}
 use Rattle.laws.proofs.ByPosition.{compressedAt, marks-by-position, projected-by-position}
 use Rattle.projection.specs.declared.Projected.{Projected}

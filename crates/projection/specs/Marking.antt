@@ -5,10 +5,9 @@ use mathlib.Core.Path.{_≡_}
 use Prim.Native.Nat.{ℕ, _+_, _<_, _≤_}
 use lib.Dec.{eqb}
 use lib.ListN.{length, getD}
-use Rattle.rules.specs.Lists.{keep, count, indices, writtenFrom}
+use Rattle.rules.specs.Lists.{keep, count, indices, writtenFrom, Distinct}
 use Rattle.rules.specs.Ordered.{keyAt}
 use Rattle.rules.specs.Graph.{edgesBetween}
-use Rattle.rules.proofs.Distinct.{Distinct}
 use Rattle.graph.specs.Adjacency.{Below, chain, Rises, leaving, Indexed}
 use Rattle.projection.specs.Entries.{nodeMarks, retainedCount}
 

@@ -5,7 +5,7 @@ use mathlib.Core.Path.{_≡_, refl, sym, ap, ap₂, _∙_}
 use Prim.Native.Nat.{ℕ, _<_}
 use lib.Dec.{eqb}
 use lib.ListN.{length, getD}
-use Rattle.rules.specs.Lists.{notEmpty, any, indices, rising}
+use Rattle.rules.specs.Lists.{notEmpty, any, indices, rising, Distinct}
 use Rattle.rules.specs.Kinds.{kindRow, isDevice}
 use Rattle.rules.specs.Ordered.{ordered}
 use Rattle.rules.specs.Graph.{Edge, edgesBetween, sharesComponent, sharedMarks}
@@ -16,7 +16,6 @@ use Rattle.rules.specs.Reasons.{passive, isInverter, feedback, feedbackReason, 
 use Rattle.rules.specs.declared.answers.BehaviorPattern.the-variants.{DelayedPath, ClockCandidate, LatchCandidate, Nothing}
 use Rattle.rules.proofs.Lists.{any-same, any-map, keep-out, keep-same}
 use Rattle.rules.proofs.Columns.{component-ids}
-use Rattle.rules.proofs.Distinct.{Distinct}
 use Rattle.rules.proofs.Indices.{indices-below}
 use Rattle.rules.proofs.Ordering.{ordered-perm, ordered-rising}
 use Rattle.rules.proofs.Permutations.{perm-mem}

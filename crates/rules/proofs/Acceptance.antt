@@ -6,7 +6,7 @@ use Prim.Native.Nat.{ℕ, suc, _≤_, _<_}
 use native.Mathlib.Omega.{arith}
 use lib.Dec.{T, T-not, eqb, ltb, eqb→eq, eqb-refl}
 use lib.ListN.{length, getD, take}
-use Rattle.rules.specs.Lists.{any, keep, count, indices}
+use Rattle.rules.specs.Lists.{any, keep, count, indices, Distinct}
 use Rattle.rules.specs.Graph.{sourceOf, sinkOf}
 use Rattle.rules.specs.Scene.{Component, Connection, ComponentLists, ConnectionLists, componentAt, connectionAt, componentsOf, connectionsOf, isEdge, edgeOf, edgesOf, idOf, hasId}
 use Rattle.rules.specs.Refusals.{Test, SceneLimits, Output, lengthsDiffer, componentLengths, connectionLengths, outputTest, outOfRange, usedEarlier, componentTests, badTransfer, endMissing, connectionTests, sizeTests, sceneTests, checkScene}
@@ -17,7 +17,6 @@ use Rattle.rules.proofs.Permutations.{perm-mem, perm-length, perm-keep,
 use Rattle.rules.proofs.Indices.{indices-below, below-indices, distinct-if, distinct-before}
 use Rattle.rules.proofs.Columns.{ComponentsAligned, ConnectionsAligned, component-ids, connections-length}
 use Rattle.rules.proofs.FirstRefusal.{at-most, all-same, same-all, NoneHold, within, none-nil, none-cons, none-append, none-map, none-flat, none-parts, none-each, none-holds, accepted-if}
-use Rattle.rules.proofs.Distinct.{Distinct}
 use Rattle.rules.proofs.Scenes.{EndsListed, DistinctIds}
 
 -- every list of an output is as long as it has to be

@@ -6,9 +6,9 @@ use Prim.Native.Nat.{ℕ, suc, _+_, _≤_, _<_, zero-le}
 use native.Mathlib.Omega.{arith}
 use lib.Dec.{T, T-not, eqb, eqb-refl}
 use lib.ListN.{length}
-use Rattle.rules.specs.Lists.{keep, count, once}
+use Rattle.rules.specs.Lists.{keep, count, once, Distinct}
 use Rattle.rules.proofs.Lists.{chosen, keep-out, flat-out}
-use Rattle.rules.proofs.Distinct.{distinct-append, Distinct}
+use Rattle.rules.proofs.Distinct.{distinct-append}
 
 module _ {A : Type 0} where
   count-yes : (f : A → Bool) (x : A) (l : List A) → T (f x) → count f (x ∷ l) ≡ suc (count f l)

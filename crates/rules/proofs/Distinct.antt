@@ -5,14 +5,10 @@ use mathlib.Core.Logic.{⊎-elim}
 use Prim.Native.Nat.{_≤_, zero-le}
 use native.Mathlib.Omega.{arith}
 use lib.ListN.{length}
+use Rattle.rules.specs.Lists.{Distinct}
 use Rattle.rules.proofs.Permutations.{perm-mem, perm-length, to-front}
 
 module _ {A : Type 0} where
-  -- no entry stands twice
-  abbrev pub Distinct : List A → Type 0
-  Distinct [] = Unit {0}
-  Distinct (x ∷ l) = (List·Memᴰ x l → ⊥) × Distinct l
-
   -- distinct entries of a list are no more than its length
   pub pigeon : (l r : List A) → Distinct l → ((x : A) → List·Memᴰ x l → List·Memᴰ x r) → length l ≤ length r
   pigeon [] r d h = zero-le

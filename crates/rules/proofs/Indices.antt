@@ -7,8 +7,7 @@ use native.Mathlib.Omega.{arith}
 use native.Mathlib.Nat.{zero-add, add-zero, suc-add}
 use lib.ListN.{length, getD, take, length-map}
 use lib.Seq.{ext-getD}
-use Rattle.rules.specs.Lists.{from, indices}
-use Rattle.rules.proofs.Distinct.{Distinct}
+use Rattle.rules.specs.Lists.{from, indices, Distinct}
 
 module _ {A : Type 0} (d : A) where
   -- the entry at an index is an entry of the list, and every entry has an index

@@ -8,12 +8,12 @@ use native.Mathlib.Omega.{arith}
 use native.Mathlib.Nat.{not-suc-le-zero}
 use lib.Dec.{T, T-not, not-T, eqb, eqb→eq, eqb-refl}
 use lib.ListN.{length, length-map}
-use Rattle.rules.specs.Lists.{any, keep}
+use Rattle.rules.specs.Lists.{any, keep, Distinct}
 use Rattle.rules.specs.Graph.{Edge, _⟶_, sourceOf, endsAt, cycleReaching, settled, Walk, stop, step, Settled}
 use Rattle.rules.specs.Paths.{entersSettled, noIncoming, settledSources, pathsWithin, pathsTo, PathTo, only, then}
 use Rattle.rules.proofs.Lists.{and-left, and-right, tests, any-in, any-out, keep-in, keep-out, flat-in, flat-out}
 use Rattle.rules.proofs.Reach.{join, reach→walk, walk→reach}
-use Rattle.rules.proofs.Distinct.{pigeon, Distinct}
+use Rattle.rules.proofs.Distinct.{pigeon}
 
 module _ (es : List Edge) where
   pub settled→ : (v : ℕ) → T (settled es v) → Settled es v

@@ -7,12 +7,12 @@ use Prim.Native.Nat.{ℕ, zero, suc, _+_, _<_}
 use native.Mathlib.Omega.{arith}
 use lib.Dec.{T, eqb→eq}
 use lib.ListN.{length, length-map}
-use Rattle.rules.specs.Lists.{any}
+use Rattle.rules.specs.Lists.{any, Distinct}
 use Rattle.rules.specs.Graph.{Edge, _⟶_, sinkOf, endsAt, Walk, stop, step, Settled}
 use Rattle.rules.specs.Delay.{saturatingAdd}
 use Rattle.rules.specs.Paths.{noIncoming, settledSources, pathsTo, delaySum, extreme, extremeSum, PathTo, only, then, IsExtreme}
 use Rattle.rules.proofs.Lists.{any-out}
-use Rattle.rules.proofs.Distinct.{pigeon, Distinct}
+use Rattle.rules.proofs.Distinct.{pigeon}
 use Rattle.rules.proofs.Paths.{noIncoming→, settled-back, source-in, source-out, path→listed, listed→path}
 use Rattle.rules.proofs.Sums.{Choice, extreme-at, extreme-good, extreme-same, Under}
 

@@ -7,8 +7,8 @@ use Prim.Native.Nat.{ℕ, suc, _≤_, _<_, min}
 use native.Mathlib.Omega.{arith}
 use lib.ListN.{length}
 use lib.Dec.{T, ltb, ltb→lt, lt→ltb}
-use Rattle.rules.specs.Lists.{any, notEmpty}
-use Rattle.rules.specs.Refusals.{SceneLimits, test, needOf, shortest, outputsFrom, outputTest, roomOutputs, sizeTests, sceneTests, checkScene}
+use Rattle.rules.specs.Lists.{any}
+use Rattle.rules.specs.Refusals.{SceneLimits, test, needOf, shortest, EachListed, outputsFrom, outputTest, roomOutputs, sizeTests, sceneTests, checkScene}
 use Rattle.rules.specs.Scene.{ComponentLists, ConnectionLists}
 use Rattle.rules.specs.Describe.{checkDescribe}
 use Rattle.rules.specs.Assess.{checkAssess}
@@ -34,11 +34,6 @@ unfolding any
 short-any need n [] = refl
 short-any need n (m ∷ ns) =
     ap (λ b. ltb n need || b) (short-any need m ns ∙ or-false (ltb (shortest (m ∷ ns)) need)) ∙ smaller-short n (shortest (m ∷ ns)) need ∙ sym (or-false (ltb (min n (shortest (m ∷ ns))) need))
-
--- every output list has a number list
-abbrev pub EachListed : List (List ℕ) → Type 0
-EachListed [] = Unit {0}
-EachListed (lengths ∷ lists) = T (notEmpty lengths) × EachListed lists
 
 module _ (n m : ℕ) where
   same-tests : (k : ℕ) (lists : List (List ℕ)) → EachListed lists → map outputTest (outputsFrom k n m lists) ≡ map outputTest (roomOutputs n m k (map shortest lists))

@@ -1,6 +1,6 @@
 -- Words about lists that the rules are written with. Assumes nothing: these are definitions.
 use mathlib.Core.Bool.{Bool, true, false, not, cond, _||_}
-use mathlib.Core.List.{List, [], _∷_, _++_}
+use mathlib.Core.List.{List, [], _∷_, _++_, List·Memᴰ}
 use Prim.Native.Nat.{ℕ, zero, suc, _+_}
 use lib.Dec.{leb, eqb}
 use lib.ListN.{length, take, drop}
@@ -25,6 +25,11 @@ module _ {A : Type 0} where
   unfoldable pub count : (A → Bool) → List A → ℕ
   count f [] = 0
   count f (x ∷ xs) = let r = count f xs in cond (f x) (suc r) r
+
+  -- no entry stands twice
+  abbrev pub Distinct : List A → Type 0
+  Distinct [] = Unit {0}
+  Distinct (x ∷ xs) = (List·Memᴰ x xs → ⊥) × Distinct xs
 
   -- a lent list after new entries were written to it from a place on: the others keep their values
   unfoldable pub writtenFrom : ℕ → List A → List A → List A

@@ -4,9 +4,9 @@ use mathlib.Core.Bool.{Bool, false, not, cond, _&&_, _||_}
 use mathlib.Core.List.{List, [], _∷_, _++_, map, flatMap}
 use mathlib.Core.Path.{_≡_}
 use Prim.Native.Nat.{ℕ, suc, _+_, _*_, min}
-use lib.Dec.{eqb, ltb}
+use lib.Dec.{T, eqb, ltb}
 use lib.ListN.{length, getD, take}
-use Rattle.rules.specs.Lists.{any, indices, writtenFrom}
+use Rattle.rules.specs.Lists.{notEmpty, any, indices, writtenFrom}
 use Rattle.rules.specs.Scene.{Component, Connection, ComponentLists, ConnectionLists, componentAt, connectionAt, isEdge}
 use Rattle.rules.specs.declared.answers.Checked.{Checked}
 use Rattle.rules.specs.declared.answers.Checked.the-variants.{Accepted, Refused}
@@ -72,6 +72,11 @@ abbrev pub shortest : List ℕ → ℕ
 shortest [] = 0
 shortest (n ∷ []) = n
 shortest (n ∷ m ∷ ns) = min n (shortest (m ∷ ns))
+
+-- every output list has a number list
+abbrev pub EachListed : List (List ℕ) → Type 0
+EachListed [] = Unit {0}
+EachListed (lengths ∷ lists) = T (notEmpty lengths) × EachListed lists
 
 -- the output lists of a call of which the shortest length of each is known: proofs/Shortest shows that this is enough
 abbrev pub roomOutputs : (n m list : ℕ) → List ℕ → List Output

@@ -8,7 +8,7 @@ use lib.Dec.{leb}
 use lib.ListN.{length, take, length-map}
 use lib.Seq.{length-take-le}
 use borrow.Author.Tests.{le-leb, lt-leb, leb-true}
-use Rattle.rules.specs.Lists.{written}
+use Rattle.rules.specs.Lists.{written, Distinct}
 use Rattle.rules.specs.Ordered.{ordered, positionOf}
 use Rattle.rules.specs.Graph.{Edge, _⟶_, sourceOf, sinkOf, edgesBetween}
 use Rattle.rules.specs.Positions.{idAt, named, Inside, Positioned}
@@ -17,7 +17,6 @@ use Rattle.rules.specs.Refusals.{Output, sceneLimits, checkScene}
 use Rattle.rules.specs.declared.answers.Checked.{Checked}
 use Rattle.rules.specs.declared.answers.Checked.the-variants.{Accepted, Refused}
 use Rattle.rules.proofs.Acceptance.{AcceptedScene, accepted→}
-use Rattle.rules.proofs.Distinct.{Distinct}
 use Rattle.rules.proofs.FirstRefusal.{not-both}
 use Rattle.rules.proofs.Indices.{distinct-at}
 use Rattle.rules.proofs.Ordering.{ordered-length, first→position}
