@@ -13,6 +13,7 @@ ghost use Rattle.scene.specs.ScenePositions.{Tested};
 ghost use Rattle.assess.specs.Answer.{assessedOf};
 ghost use Rattle.assess.specs.Nodes.{PositionsLent};
 use crate::project::project_scene;
+use lengths::shortest;
 use projection::Projected;
 use reasons::ReasonsAssessed;
 use reasons::assess_reasons;
@@ -21,7 +22,6 @@ use rules::answers::Checked;
 use rules::answers::SceneAnswer;
 use rules::limits::MAX_COMPONENTS;
 use rules::limits::MAX_CONNECTIONS;
-use scene::lengths::shortest;
 use scene::positions::ScenePositions;
 use scene::positions::scene_positions;
 

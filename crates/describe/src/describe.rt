@@ -7,11 +7,11 @@ ghost use Rattle.scene.specs.Indexed.{IndexRoom};
 ghost use Rattle.scene.specs.ScenePositions.{Tested};
 use crate::components::list_components;
 use crate::edges::list_timed_edges;
+use lengths::shortest;
 use rules::answers::Checked;
 use rules::answers::Description;
 use rules::limits::MAX_COMPONENTS;
 use rules::limits::MAX_CONNECTIONS;
-use scene::lengths::shortest;
 use scene::positions::ScenePositions;
 use scene::positions::scene_positions;
 

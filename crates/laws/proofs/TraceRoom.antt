@@ -12,12 +12,11 @@ use Rattle.rules.specs.Codes.{unitOf, verdictCode}
 use Rattle.rules.specs.Pulses.{Event, Pulse, eventsOf, isPulse, pulseOf, pulsesIn, pulses, ofComponent, eventComponents}
 use Rattle.rules.specs.Verdicts.{Finding, findingOf, findings, findingVerdict, tally, tallies, contractsOf}
 use Rattle.rules.specs.Traces.{TraceLimits, TraceLists, eventCount, checkTrace, traceFindings}
-use Rattle.rules.specs.Recording.{recordFalse, checkRecording, addTallies, grown, recordAfter}
+use Rattle.rules.specs.Recording.{TransientRecord, recordFalse, checkRecording, addTallies, grown, recordAfter}
 use Rattle.rules.specs.declared.answers.Checked.the-variants.{Accepted}
 use Rattle.rules.specs.declared.transient.TraceTimeUnit.{TraceTimeUnit}
 use Rattle.rules.specs.declared.transient.TransientVerdict.{TransientVerdict}
 use Rattle.rules.specs.declared.transient.TransientVerdict.the-variants.{PulseObserved, TransientDeviation, HazardCandidate, HazardConfirmed, IntentionalPulse}
-use Rattle.rules.specs.declared.transient.TransientRecord.{TransientRecord}
 use Rattle.rules.proofs.Lists.{any-in, any-out}
 use Rattle.rules.proofs.Counts.{count-or, once-distinct, count-none, count-under, count-every}
 use Rattle.rules.proofs.Permutations.{keep-length}
@@ -105,7 +104,8 @@ pub recording-room : (limits : TraceLimits) (r : TransientRecord) (t : TraceList
     → Fits (r .findings + length (traceFindings t)) lengths
 recording-room limits r t lengths e n k = omega (arith, findings-fit t, checked→recording limits r t lengths e .trace-accepted .lists-long n k)
 
-verdict-below : (v : TransientVerdict) → verdictCode v < 5
+-- there are five verdicts
+pub verdict-below : (v : TransientVerdict) → verdictCode v < 5
 verdict-below PulseObserved = omega arith
 verdict-below TransientDeviation = omega arith
 verdict-below HazardCandidate = omega arith

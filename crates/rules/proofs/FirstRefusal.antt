@@ -59,6 +59,13 @@ end = refl
 pub within : (b n : ℕ) → n ≤ b → T (ltb b n) → ⊥
 within b n h t = omega (arith, ltb→lt b n t)
 
+-- what a flag says of the test that it is equal to
+pub flag-set : {r b : Bool} → r ≡ b → r ≡ true → T b
+flag-set e s = subst T (sym s ∙ e) tt
+
+pub flag-clear : {r b : Bool} → r ≡ b → r ≡ false → T b → ⊥
+flag-clear e s t = subst T (sym e ∙ s) t
+
 -- for `search`, where each test compares two numbers and what is known of them stands among the hypotheses
 pub ruleset refusal-steps = (stop, more, end, within, lt→ltb)
 

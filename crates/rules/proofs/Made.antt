@@ -27,7 +27,7 @@ module _ {A : Type 0} (f : ℕ → A) (start : ℕ) (old : List A) where
   }
 
 -- what each entry of a list gives, made by index
-made-map : {A B : Type 0} (f : A → B) (l : List A) (d : A) → map (λ k. f (getD l k d)) (indices (length l)) ≡ map f l
+pub made-map : {A B : Type 0} (f : A → B) (l : List A) (d : A) → map (λ k. f (getD l k d)) (indices (length l)) ≡ map f l
 made-map f l d = sym (ap (map f) (by-index l d) ∙ map-map f (λ k. getD l k d) (indices (length l)))
 
 pub made-all : {A B : Type 0} (f : A → B) (l : List A) (d : A) (start : ℕ) (old now : List B) (k : ℕ) → k ≡ length l → Made (λ j. f (getD l j d)) start old now k → now ≡ writtenFrom start old (map f l)

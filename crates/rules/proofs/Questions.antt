@@ -17,11 +17,10 @@ use Rattle.rules.specs.Describe.{TimedEdge, timedEdge, timedEdges, Tempo
 use Rattle.rules.specs.Assess.{assessOutputs, checkAssess, assessment, sceneAnswer, sceneNumbers}
 use Rattle.rules.specs.Pulses.{EventLists, eventAt, eventsOf, isPulse, pulseOf, pulsesIn, eventComponents, pulses}
 use Rattle.rules.specs.Verdicts.{ContractLists, contractAt, contractsOf, intentOf, designIntent, classify, Finding, findingOf, findings, findingComponent, findingPolarity, findingUnit, findingStartTick, findingEndTick, findingWidth, findingSteady, findingBaseline, findingStart, findingEnd, findingVerdict, findingRationale, tally, tallies}
-use Rattle.rules.specs.Traces.{TraceLimits, traceLimits, TraceLists, eventCount, contractCount, eventLengths, contractLengths, contractOutOfRange, notAboveBefore, contractTests, traceTests, checkTrace, traceFindings, transientAssessment, transientNumbers}
-use Rattle.rules.specs.Recording.{recordFalse, recordTests, checkRecording, addTallies, grown, findingsAfter, recorded}
+use Rattle.rules.specs.Traces.{TraceLimits, traceLimits, TraceLists, eventCount, contractCount, eventLengths, contractLengths, contractOutOfRange, notAboveBefore, contractTests, traceTests, checkTrace, traceFindings, transientAnswer, transientAssessment, transientNumbers}
+use Rattle.rules.specs.Recording.{TransientRecord, recordFalse, recordTests, checkRecording, addTallies, grown, findingsAfter, recordAfter}
 use Rattle.rules.specs.declared.answers.Checked.{Checked}
 use Rattle.rules.specs.declared.answers.Checked.the-variants.{Accepted}
-use Rattle.rules.specs.declared.transient.TransientRecord.{TransientRecord}
 
 -- A scene's answer: its numbers, then lists 3 to 7 and 8, an entry of several fields as a row of numbers
 pub record Report : Type 0 where
@@ -185,8 +184,8 @@ answer (trace t) =
 answer (tests limits room t) = refusal (checkTrace limits t room)
 answer (compared t) = holds (eventLengths (t .events) ++ contractLengths (t .contracts))
 answer (recording room r t) =
-    let a = recorded (checkRecording traceLimits r t (room ∷ [])) r t in
-    record-after (transientNumbers (a .answer)) (a .held)
+    let c = checkRecording traceLimits r t (room ∷ []) in
+    record-after (transientNumbers (transientAnswer c t)) (recordAfter c r t)
 answer (appended found r old new) = holds (findingsAfter found r old new)
 answer (stored found start old new) = holds (afterFrom found start old new)
 answer (path paths starts lengths k) = holds (projectedPath paths starts lengths k)
@@ -201,7 +200,7 @@ unfolding any keep count from indices insert rising once sum writtenFrom saturat
     timedEdge timedEdges temporalDevice deviceComponents devices evidence checkDescribe checkAssess assessment
     eventAt eventsOf isPulse pulseOf pulsesIn eventComponents pulses contractAt contractsOf intentOf designIntent classify findingOf findings tally tallies
     eventCount contractCount eventLengths contractLengths contractOutOfRange notAboveBefore contractTests traceTests checkTrace traceFindings
-    recordFalse recordTests checkRecording addTallies grown recorded flatMap
+    recordFalse recordTests checkRecording addTallies grown flatMap
 computes = 0
 
 -- Short ways to write a scene

@@ -29,7 +29,8 @@ smaller-short n m need = same-test (ltb n need || ltb m need) (ltb (min n m) nee
     go h (inl k) = or-left (ltb n need) _ (lt→ltb n need (omega arith))
     go h (inr k) = or-right (ltb n need) _ (lt→ltb m need (omega arith))
 
-short-any : (need n : ℕ) (ns : List ℕ) → any (λ x. ltb x need) (n ∷ ns) ≡ any (λ x. ltb x need) (shortest (n ∷ ns) ∷ [])
+-- a list of several fields is too short exactly if its shortest number list is
+pub short-any : (need n : ℕ) (ns : List ℕ) → any (λ x. ltb x need) (n ∷ ns) ≡ any (λ x. ltb x need) (shortest (n ∷ ns) ∷ [])
 unfolding any
 short-any need n [] = refl
 short-any need n (m ∷ ns) =

@@ -7,31 +7,17 @@ use native.Mathlib.Omega.{arith}
 use lib.Dec.{T, T-not, not-T, eqb, ltb, leb, eqb→eq, nleb→lt, lt→ltb, leb→le}
 use lib.ListN.{length, getD}
 use Rattle.rules.specs.Lists.{indices, sum}
+use Rattle.rules.specs.Ordered.{Rises}
 use Rattle.rules.specs.Refusals.{Test, firstRefusal, lengthsDiffer, output}
-use Rattle.rules.specs.Pulses.{Event, EventLists, eventAt, eventsOf}
-use Rattle.rules.specs.Verdicts.{Contract, ContractLists, contractAt, contractsOf}
+use Rattle.rules.specs.Pulses.{Event, EventLists, EventsAligned, eventAt, eventsOf}
+use Rattle.rules.specs.Verdicts.{Contract, ContractLists, ContractsAligned, contractAt, contractsOf}
 use Rattle.rules.specs.Traces.{TraceLimits, TraceLists, eventCount, contractCount, eventLengths, contractLengths, contractOutOfRange, notAboveBefore, eventTest, contractTests, traceTests, checkTrace}
-use Rattle.rules.specs.Recording.{recordFalse, recordTests, checkRecording}
+use Rattle.rules.specs.Recording.{TransientRecord, recordFalse, recordTests, checkRecording}
 use Rattle.rules.specs.declared.answers.Checked.the-variants.{Accepted}
-use Rattle.rules.specs.declared.transient.TransientRecord.{TransientRecord}
 use Rattle.rules.proofs.Lists.{passes, or-none, and-left, and-right, and-both, eq-test, tests}
 use Rattle.rules.proofs.Indices.{made-length, column, indices-below, below-indices}
 use Rattle.rules.proofs.FirstRefusal.{at-most, all-same, same-all, NoneHold, within, none-nil, none-cons, none-append, none-map, none-flat, none-parts, none-each, none-holds, accepted-if}
 use Rattle.rules.proofs.Acceptance.{output-long, output-long-test}
-
--- the lists of the events have one length
-pub record EventsAligned (l : EventLists) : Type 0 where
-  pub components-length : length (l .components) ≡ length (l .ticks)
-  pub powered-length : length (l .powered) ≡ length (l .ticks)
-
--- and so have those of the contracts
-pub record ContractsAligned (l : ContractLists) : Type 0 where
-  pub intents-length : length (l .intents) ≡ length (l .components)
-  pub powered-length : length (l .powered) ≡ length (l .components)
-  pub polarities-length : length (l .polarities) ≡ length (l .components)
-  pub units-length : length (l .units) ≡ length (l .components)
-  pub smallest-length : length (l .smallest) ≡ length (l .components)
-  pub largest-length : length (l .largest) ≡ length (l .components)
 
 -- the values that a contract's intent uses are in their ranges
 pub record ContractFits (c : Contract) : Type 0 where
@@ -39,10 +25,6 @@ pub record ContractFits (c : Contract) : Type 0 where
   pub stable-fits : c .intent ≡ 1 → c .powered ≤ 1
   pub pulse-fits : c .intent ≡ 2 → (c .polarity ≤ 1) × (c .unit ≤ 1)
   pub maximum-fits : c .intent ≡ 3 → (c .polarity ≤ 1) × (c .unit ≤ 1)
-
--- each number is above the one before
-abbrev pub Rises : List ℕ → Type 0
-Rises l = (i : ℕ) → suc i < length l → getD l i 0 < getD l (suc i) 0
 
 -- what acceptance says of a trace, if list 9 needs so many entries and its fields' lists have these lengths
 pub record AcceptedTrace (limits : TraceLimits) (t : TraceLists) (need : ℕ) (lengths : List ℕ) : Type 0 where
@@ -69,7 +51,7 @@ pub record AcceptedRecording (limits : TraceLimits) (r : TransientRecord) (t : T
 
 -- Each test of a trace fails exactly where its fact holds
 module _ (l : EventLists) where
-  aligned-events : (T (lengthsDiffer (eventLengths l)) → ⊥) → EventsAligned l
+  pub aligned-events : (T (lengthsDiffer (eventLengths l)) → ⊥) → EventsAligned l
   unfolding eventLengths
   aligned-events h = let a = all-same _ _ h in record { components-length = a .0; powered-length = a .1 .0 }
 
@@ -78,7 +60,7 @@ module _ (l : EventLists) where
   aligned-events-test a = same-all _ _ (a .components-length, (a .powered-length, tt))
 
 module _ (l : ContractLists) where
-  aligned-contracts : (T (lengthsDiffer (contractLengths l)) → ⊥) → ContractsAligned l
+  pub aligned-contracts : (T (lengthsDiffer (contractLengths l)) → ⊥) → ContractsAligned l
   unfolding contractLengths
   aligned-contracts h =
       let a = all-same _ _ h in

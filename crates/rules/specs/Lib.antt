@@ -17,8 +17,9 @@ pub mod Refusals
 pub mod Feedback
 pub mod Describe
 pub mod Assess
--- recorded pulses, the trace call, and recording:
+-- recorded pulses, also by windows, the trace call, and recording:
 pub mod Pulses
+pub mod Windows
 pub mod Verdicts
 pub mod Traces
 pub mod Recording

@@ -1,6 +1,7 @@
 -- Recorded events and the pulses in them. Assumes nothing: these are definitions.
 use mathlib.Core.Bool.{Bool, not, cond, _&&_}
 use mathlib.Core.List.{List, [], _∷_, map, flatMap}
+use mathlib.Core.Path.{_≡_}
 use Prim.Native.Nat.{ℕ, _-_}
 use lib.Dec.{eqb, ltb}
 use lib.ListN.{length, getD}
@@ -21,6 +22,15 @@ pub record EventLists : Type 0 where
   pub ticks : List ℕ
   pub components : List ℕ
   pub powered : List ℕ
+
+-- these lists, one by one in the order in which a call takes them
+abbrev pub eventLists : (ticks components powered : List ℕ) → EventLists
+eventLists ticks components powered = record { ticks = ticks; components = components; powered = powered }
+
+-- the lists have one length
+pub record EventsAligned (l : EventLists) : Type 0 where
+  pub components-length : length (l .components) ≡ length (l .ticks)
+  pub powered-length : length (l .powered) ≡ length (l .ticks)
 
 unfoldable pub eventAt : EventLists → ℕ → Event
 eventAt l i = record { index = i; tick = getD (l .ticks) i 0; component = getD (l .components) i 0; powered = getD (l .powered) i 0 }

@@ -1,17 +1,22 @@
 -- Recording a trace. Assumes nothing: these are definitions.
 use mathlib.Core.Bool.{Bool, not, _||_}
 use mathlib.Core.List.{List, _∷_, map}
+use mathlib.Core.Path.{_≡_}
 use Prim.Native.Nat.{ℕ, suc, _+_, _*_}
 use lib.Dec.{eqb, leb, ltb}
 use lib.ListN.{length, getD}
 use Rattle.rules.specs.Lists.{sum, indices}
 use Rattle.rules.specs.Refusals.{Test, test, firstRefusal, afterFrom}
-use Rattle.rules.specs.Verdicts.{Finding, tallies}
-use Rattle.rules.specs.Traces.{TraceLimits, TraceLists, eventCount, traceTests, traceFindings, transientAnswer}
+use Rattle.rules.specs.Verdicts.{Finding, tallies, FindingLists, findingLengths, FindingsListed}
+use Rattle.rules.specs.Traces.{TraceLimits, TraceLists, eventCount, traceTests, traceFindings, transientAnswer, transientNumbers}
 use Rattle.rules.specs.declared.answers.Checked.{Checked}
 use Rattle.rules.specs.declared.answers.Checked.the-variants.{Accepted, Refused}
-use Rattle.rules.specs.declared.transient.TransientRecord.{TransientRecord}
-use Rattle.rules.specs.declared.transient.Recorded.{Recorded}
+
+-- "traces held, findings held, five tallies"
+pub record TransientRecord : Type 0 where
+  pub traces : ℕ
+  pub findings : ℕ
+  pub tallies : List ℕ
 
 -- "A record is false if its tallies don't sum to findings held, or findings exceed 4,096 times traces, both in whole numbers that don't wrap."
 unfoldable pub recordFalse : TraceLimits → TransientRecord → Bool
@@ -44,6 +49,8 @@ abbrev pub recordAfter : Checked → TransientRecord → TraceLists → Transien
 recordAfter Accepted r t = grown r (traceFindings t)
 recordAfter (Refused number place) r t = r
 
--- the answer counts the findings of this trace, the record those held
-unfoldable pub recorded : Checked → TransientRecord → TraceLists → Recorded
-recorded checked r t = record { answer = transientAnswer checked t; held = recordAfter checked r t }
+-- the call: the answer's numbers, of which the findings are those of this trace; the record after the call; and what list 9 holds then
+pub record RecordCall (limits : TraceLimits) (r : TransientRecord) (t : TraceLists) (old new : FindingLists) (numbers : List ℕ) (then : TransientRecord) : Type 0 where
+  pub numbered : numbers ≡ transientNumbers (transientAnswer (checkRecording limits r t (findingLengths old)) t)
+  pub recorded : then ≡ recordAfter (checkRecording limits r t (findingLengths old)) r t
+  pub listed : FindingsListed (findingsAfter (checkRecording limits r t (findingLengths old)) r) (traceFindings t) old new

@@ -1,14 +1,15 @@
 -- The trace call: its refusals in their order, and its answer. Assumes nothing: these are definitions.
 use mathlib.Core.Bool.{Bool, _&&_, _||_}
-use mathlib.Core.List.{List, [], _∷_, _++_, map, flatMap}
-use Prim.Native.Nat.{ℕ, _-_}
+use mathlib.Core.List.{List, [], _∷_, _++_, map}
+use mathlib.Core.Path.{_≡_}
+use Prim.Native.Nat.{ℕ, _+_, _-_}
 use lib.Dec.{eqb, leb, ltb}
 use lib.ListN.{length, getD, replicate}
 use Rattle.rules.specs.Lists.{indices}
 use Rattle.rules.specs.Codes.{unitOf}
-use Rattle.rules.specs.Refusals.{Test, test, firstRefusal, output, outputTest, lengthsDiffer}
+use Rattle.rules.specs.Refusals.{Test, test, firstRefusal, afterFrom, output, outputTest, lengthsDiffer, rows}
 use Rattle.rules.specs.Pulses.{EventLists, eventAt, eventsOf}
-use Rattle.rules.specs.Verdicts.{Contract, ContractLists, contractAt, contractsOf, Finding, findings, tallies}
+use Rattle.rules.specs.Verdicts.{Contract, ContractLists, contractAt, contractsOf, Finding, findings, tallies, FindingLists, findingLengths, FindingsListed}
 use Rattle.rules.specs.declared.answers.Checked.{Checked}
 use Rattle.rules.specs.declared.answers.Checked.the-variants.{Accepted, Refused}
 use Rattle.rules.specs.declared.transient.TransientAnswer.{TransientAnswer}
@@ -31,6 +32,9 @@ pub record TraceLists : Type 0 where
   pub unit : ℕ
   pub events : EventLists
   pub contracts : ContractLists
+
+abbrev pub traceLists : (unit : ℕ) → EventLists → ContractLists → TraceLists
+traceLists unit events contracts = record { unit = unit; events = events; contracts = contracts }
 
 unfoldable pub eventCount : TraceLists → ℕ
 eventCount t = length (t .events .ticks)
@@ -63,14 +67,18 @@ eventTest l i = test (ltb 1 (eventAt l i .powered)) 11 i
 unfoldable pub contractTests : ContractLists → ℕ → List Test
 contractTests l i = test (contractOutOfRange (contractAt l i)) 11 i ∷ test (notAboveBefore (l .components) i) 12 i ∷ []
 
+-- "11 for unit, then events, then contracts one by one (11 then 12)"
+abbrev pub valueTests : TraceLists → List Test
+valueTests t =
+    test (ltb 1 (t .unit)) 11 0 ∷ (map (eventTest (t .events)) (indices (eventCount t)) ++ rows (contractTests (t .contracts)) (contractCount t))
+
 -- "For a trace: 8, 9, 10, 7, 11 for unit, then events, then contracts one by one (11 then 12)."
 -- `need` is the length that list 9 needs, `lengths` those of its fields' number lists
 unfoldable pub traceTests : TraceLimits → TraceLists → (need : ℕ) → (lengths : List ℕ) → List Test
 traceTests limits t need lengths =
     test (lengthsDiffer (eventLengths (t .events))) 8 2 ∷ test (lengthsDiffer (contractLengths (t .contracts))) 8 3
     ∷ test (ltb (limits .events) (eventCount t)) 9 (eventCount t) ∷ test (ltb (limits .contracts) (contractCount t)) 10 (contractCount t)
-    ∷ outputTest (output 9 need lengths) ∷ test (ltb 1 (t .unit)) 11 0
-    ∷ (map (eventTest (t .events)) (indices (eventCount t)) ++ flatMap (contractTests (t .contracts)) (indices (contractCount t)))
+    ∷ outputTest (output 9 need lengths) ∷ valueTests t
 
 -- the trace call: list 9 "then needs one entry for each event"
 unfoldable pub checkTrace : TraceLimits → TraceLists → (lengths : List ℕ) → Checked
@@ -93,3 +101,18 @@ transientAssessment (Refused number place) t = record { answer = Answer.Refused 
 abbrev pub transientNumbers : TransientAnswer → List ℕ
 transientNumbers (Answer.Refused number place) = number ∷ place ∷ 0 ∷ 0 ∷ []
 transientNumbers (Answer.Assessed findings contracts) = 0 ∷ 0 ∷ findings ∷ contracts ∷ []
+
+-- given what the checks find, and the place from which findings are written: the answer with the tallies, the answer's numbers, and what list 9
+-- holds after the call
+pub record AssessedBy (checked : Checked) (start : ℕ) (t : TraceLists) (old new : FindingLists) (r : TransientAssessment) : Type 0 where
+  pub assessed : r ≡ transientAssessment checked t
+  pub numbered : transientNumbers (r .answer) ≡ transientNumbers (transientAnswer checked t)
+  pub listed : FindingsListed (afterFrom checked start) (traceFindings t) old new
+
+-- the trace call
+abbrev pub TraceCall : TraceLimits → TraceLists → (old new : FindingLists) → TransientAssessment → Type 0
+TraceCall limits t old new r = AssessedBy (checkTrace limits t (findingLengths old)) 0 t old new r
+
+-- the same with its findings written from a place on, so that list 9 needs as many entries more
+abbrev pub TraceCallFrom : TraceLimits → (start : ℕ) → TraceLists → (old new : FindingLists) → TransientAssessment → Type 0
+TraceCallFrom limits start t old new r = AssessedBy (firstRefusal (traceTests limits t (start + eventCount t) (findingLengths old))) start t old new r

@@ -1,6 +1,7 @@
 -- Contracts, verdicts, rationale codes and tallies. Assumes nothing: these are definitions.
 use mathlib.Core.Bool.{Bool, cond, _&&_}
-use mathlib.Core.List.{List, map}
+use mathlib.Core.List.{List, [], _∷_, map}
+use mathlib.Core.Path.{_≡_}
 use Prim.Native.Nat.{ℕ, _+_}
 use lib.Dec.{eqb, leb}
 use lib.ListN.{length, getD}
@@ -36,6 +37,20 @@ pub record ContractLists : Type 0 where
   pub units : List ℕ
   pub smallest : List ℕ
   pub largest : List ℕ
+
+-- these lists, one by one in the order in which a call takes them
+abbrev pub contractLists : (components intents powered polarities units smallest largest : List ℕ) → ContractLists
+contractLists x0 x1 x2 x3 x4 x5 x6 =
+    record { components = x0; intents = x1; powered = x2; polarities = x3; units = x4; smallest = x5; largest = x6 }
+
+-- the lists have one length
+pub record ContractsAligned (l : ContractLists) : Type 0 where
+  pub intents-length : length (l .intents) ≡ length (l .components)
+  pub powered-length : length (l .powered) ≡ length (l .components)
+  pub polarities-length : length (l .polarities) ≡ length (l .components)
+  pub units-length : length (l .units) ≡ length (l .components)
+  pub smallest-length : length (l .smallest) ≡ length (l .components)
+  pub largest-length : length (l .largest) ≡ length (l .components)
 
 unfoldable pub contractAt : ContractLists → ℕ → Contract
 contractAt l i =
@@ -141,6 +156,46 @@ findingVerdict f = verdictCode (f .judgement .verdict)
 
 abbrev pub findingRationale : Finding → ℕ
 findingRationale f = f .judgement .rationale
+
+-- the number lists of list 9, one for each field
+pub record FindingLists : Type 0 where
+  pub components : List ℕ
+  pub polarities : List ℕ
+  pub units : List ℕ
+  pub startTicks : List ℕ
+  pub endTicks : List ℕ
+  pub widths : List ℕ
+  pub steady : List ℕ
+  pub baselines : List ℕ
+  pub starts : List ℕ
+  pub ends : List ℕ
+  pub verdicts : List ℕ
+  pub rationales : List ℕ
+
+-- these lists, one by one in the order in which a call takes them
+abbrev pub findingLists : (components polarities units startTicks endTicks widths steady baselines starts ends verdicts rationales : List ℕ) → FindingLists
+findingLists x0 x1 x2 x3 x4 x5 x6 x7 x8 x9 x10 x11 =
+    record { components = x0; polarities = x1; units = x2; startTicks = x3; endTicks = x4; widths = x5; steady = x6; baselines = x7; starts = x8; ends = x9; verdicts = x10; rationales = x11 }
+
+unfoldable pub findingLengths : FindingLists → List ℕ
+findingLengths o =
+    length (o .components) ∷ length (o .polarities) ∷ length (o .units) ∷ length (o .startTicks) ∷ length (o .endTicks) ∷ length (o .widths) ∷ length (o .steady)
+    ∷ length (o .baselines) ∷ length (o .starts) ∷ length (o .ends) ∷ length (o .verdicts) ∷ length (o .rationales) ∷ []
+
+-- what each field's list holds after a call, given what the call leaves in a list, from what it held and the entries to be written
+pub record FindingsListed (left : List ℕ → List ℕ → List ℕ) (fs : List Finding) (old new : FindingLists) : Type 0 where
+  pub components-listed : new .components ≡ left (old .components) (map findingComponent fs)
+  pub polarities-listed : new .polarities ≡ left (old .polarities) (map findingPolarity fs)
+  pub units-listed : new .units ≡ left (old .units) (map findingUnit fs)
+  pub start-ticks-listed : new .startTicks ≡ left (old .startTicks) (map findingStartTick fs)
+  pub end-ticks-listed : new .endTicks ≡ left (old .endTicks) (map findingEndTick fs)
+  pub widths-listed : new .widths ≡ left (old .widths) (map findingWidth fs)
+  pub steady-listed : new .steady ≡ left (old .steady) (map findingSteady fs)
+  pub baselines-listed : new .baselines ≡ left (old .baselines) (map findingBaseline fs)
+  pub starts-listed : new .starts ≡ left (old .starts) (map findingStart fs)
+  pub ends-listed : new .ends ≡ left (old .ends) (map findingEnd fs)
+  pub verdicts-listed : new .verdicts ≡ left (old .verdicts) (map findingVerdict fs)
+  pub rationales-listed : new .rationales ≡ left (old .rationales) (map findingRationale fs)
 
 -- "five tallies, one for each verdict, stand in for the map"
 unfoldable pub tally : List Finding → ℕ → ℕ

@@ -2,3 +2,12 @@
 pub const MAX_COMPONENTS: usize = 512;
 
 pub const MAX_CONNECTIONS: usize = 2048;
+
+// The sizes that a trace, its contracts and a record may have; specs/Traces.antt has the same numbers in `traceLimits`.
+pub const MAX_EVENTS: usize = 4096;
+
+pub const MAX_CONTRACTS: usize = 512;
+
+pub const MAX_TRACES: u64 = 64;
+
+pub const MAX_FINDINGS_EACH: u64 = 4096;

@@ -1,4 +1,4 @@
-// Pulses, verdicts and the running record.
+// Pulses and verdicts.
 
 pub enum PulsePolarity {
     High,
@@ -49,13 +49,6 @@ pub struct Judgement {
     pub rationale: u8,
 }
 
-// The running record: traces held, findings held, and a tally for each verdict by its number.
-pub struct TransientRecord {
-    pub traces: u64,
-    pub findings: u64,
-    pub tallies: [u64; 5],
-}
-
 // How many findings were written, and how many contracts were given.
 pub enum TransientAnswer {
     Refused {
@@ -72,10 +65,4 @@ pub enum TransientAnswer {
 pub struct TransientAssessment {
     pub answer: TransientAnswer,
     pub tallies: [u64; 5],
-}
-
-// The answer with the record after the call.
-pub struct Recorded {
-    pub answer: TransientAnswer,
-    pub held: TransientRecord,
 }

@@ -8,5 +8,4 @@ pub mod ConnectionSteps
 -- a scene that is accepted, and its Feedback:
 pub mod IndexSteps
 pub mod PositionSteps
-pub mod LengthSteps
 pub mod SceneFeedback

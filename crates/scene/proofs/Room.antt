@@ -1,46 +1,19 @@
--- The tests of lengths, step by step. Assumes nothing.
-use mathlib.Core.Bool.{true, false, not}
+-- The tests of the output lists, step by step. Assumes nothing.
+use mathlib.Core.Bool.{false}
 use mathlib.Core.List.{List, [], _∷_}
 use mathlib.Core.Path.{_≡_, refl, sym, ap, _∙_}
-use mathlib.Core.Logic.{_⊎_, inl, inr}
-use Prim.Native.Nat.{ℕ, zero, suc, _+_, _-_, _*_, _<_, _≤_}
+use Prim.Native.Nat.{ℕ, suc, _+_, _*_, _<_, _≤_}
 use native.Mathlib.Omega.{arith}
-use lib.Dec.{T, T-not, not-T, eqb, eqb→eq, ltb, lt→ltb}
+use lib.Dec.{T, ltb, lt→ltb}
 use lib.ListN.{length, getD, drop, List·getD-eq-default, drop-of-length-le}
 use lib.Seq.{drop-cons}
 use Rattle.rules.specs.Lists.{any}
-use Rattle.rules.specs.Refusals.{test, firstRefusal, lengthsDiffer, needOf}
+use Rattle.rules.specs.Refusals.{test, firstRefusal, needOf}
 use Rattle.rules.specs.declared.answers.Checked.{Checked}
 use Rattle.rules.specs.declared.answers.Checked.the-variants.{Accepted, Refused}
-use Rattle.rules.proofs.Lists.{any-in, any-out, or-none, or-left, eq-test, same-test}
-use Rattle.rules.proofs.Indices.{at-mem, mem-at}
-use Rattle.rules.proofs.Sums.{order}
+use Rattle.rules.proofs.Lists.{or-none, or-left}
 use Rattle.rules.proofs.FirstRefusal.{stop, more, end, within}
 use Rattle.scene.specs.Room.{roomTests}
-
--- the lengths before i are the first one
-abbrev pub AlikeBelow : ℕ → List ℕ → Type 0
-AlikeBelow i lengths = (j : ℕ) → j < i → getD lengths j 0 ≡ getD lengths 0 0
-
-pub alike-more : (i : ℕ) (lengths : List ℕ) → AlikeBelow i lengths → getD lengths i 0 ≡ getD lengths 0 0 → AlikeBelow (i + 1) lengths
-alike-more i lengths a e j h = go (order i j)
-  where
-    go : (i ≤ j) ⊎ (j < i) → getD lengths j 0 ≡ getD lengths 0 0
-    go (inl k) = ap (λ x. getD lengths x 0) (omega arith) ∙ e
-    go (inr k) = a j k
-
-pub alike-all : (lengths : List ℕ) → AlikeBelow (length lengths) lengths → false ≡ lengthsDiffer lengths
-alike-all [] a = refl
-alike-all (n ∷ ns) a = same-test false (lengthsDiffer (n ∷ ns)) (λ t. absurd t) (λ t.
-    let r = any-out (λ m. not (eqb m n)) ns t in
-    let k = mem-at 0 (r .1) in
-    T-not (eqb (r .0) n) (r .2) (eq-test (sym (k .2) ∙ a (suc (k .0)) (omega (arith, k .1)))))
-
-pub differ-at : (lengths : List ℕ) (i : ℕ) → i < length lengths → (getD lengths i 0 ≡ getD lengths 0 0 → ⊥) → true ≡ lengthsDiffer lengths
-differ-at [] i h d = absurd (omega arith)
-differ-at (n ∷ ns) zero h d = absurd (d refl)
-differ-at (n ∷ ns) (suc i) h d =
-    same-test true (lengthsDiffer (n ∷ ns)) (λ t. any-in (λ m. not (eqb m n)) (at-mem 0 ns i (omega arith)) (not-T (eqb (getD ns i 0) n) (λ s. d (eqb→eq (getD ns i 0) n s)))) (λ t. tt)
 
 module _ (n m : ℕ) where
   -- past list 8 nothing is needed

@@ -1,7 +1,6 @@
 -- The tests of lengths in their order. Assumes nothing.
 use mathlib.Core.List.{List, map}
-use mathlib.Core.Bool.{Bool, true, false}
-use mathlib.Core.Path.{_≡_, sym, subst, _∙_}
+use mathlib.Core.Path.{_≡_}
 use Prim.Native.Nat.{_<_, _≤_}
 use lib.Dec.{T, ltb, lt→ltb}
 use lib.ListN.{length}
@@ -10,13 +9,6 @@ use Rattle.rules.specs.Refusals.{Output, SceneLimits, firstRefusal, lengthsDiff
 use Rattle.rules.specs.declared.answers.Checked.{Checked}
 use Rattle.rules.specs.declared.answers.Checked.the-variants.{Refused}
 use Rattle.rules.proofs.FirstRefusal.{stop, more, within}
-
--- what a flag says of the test that it is equal to
-pub flag-set : {r b : Bool} → r ≡ b → r ≡ true → T b
-flag-set e s = subst T (sym s ∙ e) tt
-
-pub flag-clear : {r b : Bool} → r ≡ b → r ≡ false → T b → ⊥
-flag-clear e s t = subst T (sym e ∙ s) t
 
 module _ (limits : SceneLimits) (l : ComponentLists) (m : ConnectionLists) (outputs : List Output) where
   pub components-differ : T (lengthsDiffer (componentLengths l)) → Refused 8 0 ≡ firstRefusal (sizeTests limits l m outputs)

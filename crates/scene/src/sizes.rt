@@ -3,25 +3,12 @@ ghost use mathlib.Core.Path.{_≡_};
 ghost use Prim.Native.Nat.{_≤_};
 ghost use lib.ListN.{length};
 ghost use Rattle.rules.specs.Scene.{componentLists, connectionLists};
-ghost use Rattle.rules.specs.Refusals.{firstRefusal, lengthsDiffer, needOf, sceneLimits, sizeTests, roomOutputs};
+ghost use Rattle.rules.specs.Refusals.{firstRefusal, needOf, sceneLimits, sizeTests, roomOutputs};
 ghost use Rattle.scene.specs.Room.{roomTests};
+use lengths::lengths_differ;
 use rules::answers::Checked;
 use rules::limits::MAX_COMPONENTS;
 use rules::limits::MAX_CONNECTIONS;
-
-// Whether some length is not the first one.
-pub(crate) fn lengths_differ(lengths: &[usize]) -> bool
-    ensures { λ r. ⌜ r ≡ lengthsDiffer (now (lengths .entry)) ⌝ }
-{
-    let mut i = 0;
-    while i < lengths.len() {
-        if lengths[i] != lengths[0] {
-            return true;
-        }
-        i += 1;
-    }
-    false
-}
 
 // The length that an output list needs, by its number, for n components and m connections.
 fn need_of(n: usize, m: usize, list: usize) -> usize

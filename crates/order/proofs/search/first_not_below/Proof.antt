@@ -1,14 +1,15 @@
 -- `first_not_below` halves what is still to be searched. Assumes nothing.
 use Prim.Native.Nat.{_-_}
 use native.Mathlib.Omega.{arith}
+use lib.ListN.{length}
 use borrow.Author.Needs.{needs}
-use Rattle.order.specs.Searched.{Searching}
+use Rattle.order.specs.Searched.{Searching, keyOf}
 use Rattle.order.proofs.Searching.{searching-all, searching-after, searching-before, searching-done}
 use Rattle.order.proofs.search.first_not_below.Statement.{statement}
 use Rattle.order.proofs.search.first_not_below.Tie as tie
 
 abbrev Inv-loop : tie.InvT-loop
-Inv-loop keys order key low₀ high₀ low high = Searching keys order key low high
+Inv-loop keys order key low₀ high₀ low high = Searching (keyOf keys order) (length order) key low high
 
 abbrev μ-loop : tie.MeasureT-loop
 μ-loop keys order key low₀ high₀ low high = high - low
@@ -51,7 +52,7 @@ loop-again : tie.Need-loop-again Inv-loop μ-loop
 loop-again c =
     let a = c .before .before .before .before .before .before .before .args in
     let l = c .before .before .before .before .loop in
-    searching-after (a .keys .now) (a .order .now) (a .key) (l .low) (l .high) (l .inv) _ (omega arith) (omega arith) (omega (arith, c .before .key-at .ensures, c .if1 .taken))
+    searching-after (keyOf (a .keys .now) (a .order .now)) (length (a .order .now)) (a .key) (l .low) (l .high) (l .inv) _ (omega arith) (omega arith) (omega (arith, c .before .key-at .ensures, c .if1 .taken))
 
 loop-less-2 : tie.Need-loop-less-2 Inv-loop μ-loop
 loop-less-2 c =
@@ -62,7 +63,7 @@ loop-again-2 : tie.Need-loop-again-2 Inv-loop μ-loop
 loop-again-2 c =
     let a = c .before .before .before .before .before .before .before .args in
     let l = c .before .before .before .before .loop in
-    searching-before (a .keys .now) (a .order .now) (a .key) (l .low) (l .high) (l .inv) _ (omega arith) (omega arith) (omega (arith, c .before .key-at .ensures, c .if1 .left))
+    searching-before (keyOf (a .keys .now) (a .order .now)) (length (a .order .now)) (a .key) (l .low) (l .high) (l .inv) _ (omega arith) (omega arith) (omega (arith, c .before .key-at .ensures, c .if1 .left))
 
 returns : tie.Need-returns Inv-loop μ-loop
 returns c = searching-done _ _ _ _ _ (c .before .loop .inv) (c .loop-test .left)

@@ -4,7 +4,8 @@ use borrow.Author.Needs.{needs}
 use lib.ListN.{length}
 use Rattle.rules.specs.Scene.{componentLists, connectionLists}
 use Rattle.rules.specs.Refusals.{sceneLimits, componentLengths, connectionLengths, roomOutputs}
-use Rattle.scene.proofs.SizeSteps.{flag-set, flag-clear, components-differ, connections-differ, many-components, many-connections, then-outputs}
+use Rattle.rules.proofs.FirstRefusal.{flag-set, flag-clear}
+use Rattle.scene.proofs.SizeSteps.{components-differ, connections-differ, many-components, many-connections, then-outputs}
 use Rattle.scene.proofs.sizes.check_sizes.Statement.{statement}
 use Rattle.scene.proofs.sizes.check_sizes.Tie as tie
 

@@ -1,8 +1,23 @@
-// The room that an output list of several fields has: that of its shortest number list.
+// The lengths of number lists: whether those of one record kind differ, and the shortest of an output list's.
 ghost use mathlib.Core.Path.{_≡_};
 ghost use Prim.Native.Nat.{min};
-ghost use Rattle.rules.specs.Refusals.{shortest};
+ghost use Rattle.rules.specs.Refusals.{lengthsDiffer, shortest};
 
+// Whether some length is not the first one.
+pub fn lengths_differ(lengths: &[usize]) -> bool
+    ensures { λ r. ⌜ r ≡ lengthsDiffer (now (lengths .entry)) ⌝ }
+{
+    let mut i = 0;
+    while i < lengths.len() {
+        if lengths[i] != lengths[0] {
+            return true;
+        }
+        i += 1;
+    }
+    false
+}
+
+// The smaller of two lengths.
 fn smaller(a: usize, b: usize) -> usize
     ensures { λ r. ⌜ r ≡ min a b ⌝ }
 {

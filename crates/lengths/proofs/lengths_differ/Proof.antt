@@ -1,11 +1,11 @@
--- Assumes nothing.
+-- The lengths are held against the first, in order. Assumes nothing.
 use native.Mathlib.Omega.{arith}
 use Prim.Native.Nat.{_-_, _≤_}
 use lib.ListN.{length}
 use borrow.Author.Needs.{needs}
-use Rattle.scene.proofs.Room.{AlikeBelow, alike-more, alike-all, differ-at}
-use Rattle.scene.proofs.sizes.lengths_differ.Statement.{statement}
-use Rattle.scene.proofs.sizes.lengths_differ.Tie as tie
+use Rattle.lengths.proofs.Alike.{AlikeBelow, alike-more, alike-all, differ-at}
+use Rattle.lengths.proofs.lengths_differ.Statement.{statement}
+use Rattle.lengths.proofs.lengths_differ.Tie as tie
 
 abbrev Inv-loop : tie.InvT-loop
 Inv-loop lengths i₀ i = AlikeBelow i lengths × (i ≤ length lengths)

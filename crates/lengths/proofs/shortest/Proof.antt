@@ -5,9 +5,9 @@ use native.Mathlib.Omega.{arith}
 use borrow.Author.Needs.{needs}
 use lib.ListN.{length, drop}
 use Rattle.rules.specs.Refusals.{shortest}
-use Rattle.scene.proofs.LengthSteps.{shortest-none, shortest-last, shortest-more, shortest-all}
-use Rattle.scene.proofs.lengths.shortest.Statement.{statement}
-use Rattle.scene.proofs.lengths.shortest.Tie as tie
+use Rattle.lengths.proofs.Least.{shortest-none, shortest-last, shortest-more, shortest-all}
+use Rattle.lengths.proofs.shortest.Statement.{statement}
+use Rattle.lengths.proofs.shortest.Tie as tie
 
 abbrev Inv-loop : tie.InvT-loop
 Inv-loop lengths n k₀ least₀ k least = (k < length lengths) × (least ≡ shortest (drop k lengths))

@@ -1,0 +1,2 @@
+-- What is left of lent lists that were passed on:
+pub mod Left

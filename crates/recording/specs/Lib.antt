@@ -1,0 +1,2 @@
+-- The record as the rules speak of it:
+pub mod Held

@@ -1,0 +1,2 @@
+// The running record over a row of traces.
+pub mod record; // record.rt: the running record

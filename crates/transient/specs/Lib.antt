@@ -1,0 +1,3 @@
+-- What the passes over a row of event positions need and give:
+pub mod Row
+pub mod Judged
