@@ -1,2 +1,3 @@
--- What is left of lent lists that were passed on:
-pub mod Left
+-- Tallies and their sums, and the recording of a trace, case by case:
+pub mod Sums
+pub mod RecordSteps

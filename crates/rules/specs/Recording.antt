@@ -49,8 +49,13 @@ abbrev pub recordAfter : Checked → TransientRecord → TraceLists → Transien
 recordAfter Accepted r t = grown r (traceFindings t)
 recordAfter (Refused number place) r t = r
 
--- the call: the answer's numbers, of which the findings are those of this trace; the record after the call; and what list 9 holds then
-pub record RecordCall (limits : TraceLimits) (r : TransientRecord) (t : TraceLists) (old new : FindingLists) (numbers : List ℕ) (then : TransientRecord) : Type 0 where
-  pub numbered : numbers ≡ transientNumbers (transientAnswer (checkRecording limits r t (findingLengths old)) t)
-  pub recorded : then ≡ recordAfter (checkRecording limits r t (findingLengths old)) r t
-  pub listed : FindingsListed (findingsAfter (checkRecording limits r t (findingLengths old)) r) (traceFindings t) old new
+-- given what the checks find: the answer's numbers, of which the findings are those of this trace; the record after the call; and what list 9
+-- holds then
+pub record RecordedBy (checked : Checked) (r : TransientRecord) (t : TraceLists) (old new : FindingLists) (numbers : List ℕ) (then : TransientRecord) : Type 0 where
+  pub numbered : numbers ≡ transientNumbers (transientAnswer checked t)
+  pub recorded : then ≡ recordAfter checked r t
+  pub listed : FindingsListed (findingsAfter checked r) (traceFindings t) old new
+
+-- the call
+abbrev pub RecordCall : TraceLimits → TransientRecord → TraceLists → (old new : FindingLists) → (numbers : List ℕ) → (then : TransientRecord) → Type 0
+RecordCall limits r t old new numbers then = RecordedBy (checkRecording limits r t (findingLengths old)) r t old new numbers then

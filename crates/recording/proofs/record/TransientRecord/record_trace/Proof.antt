@@ -52,7 +52,7 @@ use Rattle.recording.specs.Held.{recordOf}
 use Rattle.recording.specs.declared.record.TransientRecord.{TransientRecord}
 use Rattle.recording.specs.declared.record.TransientNumbers.{TransientNumbers}
 use Rattle.recording.specs.declared.record.RecordedTrace.{RecordedTrace}
-use Rattle.recording.proofs.Left.{others, lefts, lefts-go}
+use Rattle.laws.proofs.Left.{others, lefts, lefts-go}
 use Rattle.recording.proofs.record.TransientRecord as T
 use Rattle.recording.proofs.record.TransientRecord.Laws as T′
 use Rattle.recording.proofs.record.TransientNumbers as R
