@@ -7,6 +7,7 @@
 mod clock;
 mod parts;
 mod scenes;
+mod traces;
 
 use std::process::exit;
 
@@ -17,7 +18,9 @@ fn main() {
     let seed = seed.unwrap_or(1);
     println!("seed {seed}");
     let rng = &mut Rng::new(seed);
-    let tables = scenes::table(rng).and_then(|()| parts::table(rng));
+    let tables = scenes::table(rng)
+        .and_then(|()| parts::table(rng))
+        .and_then(|()| traces::table(rng));
     if let Err(wrong) = tables {
         println!("WRONG: {wrong}");
         exit(1);

@@ -46,22 +46,34 @@ impl<T: Number> Lent<T> {
 
     /// Whether the list begins with these entries, and all the rest is as it was.
     pub fn holds(&self, name: &str, new: &[T]) -> Result<(), String> {
-        let (used, length) = (new.len(), self.length);
+        self.holds_from(name, 0, new)
+    }
+
+    /// Whether these entries are in the list from `start` on, and all the rest is as it was.
+    pub fn holds_from(&self, name: &str, start: usize, new: &[T]) -> Result<(), String> {
+        let (used, length) = (start + new.len(), self.length);
         if used > length {
             return Err(format!("{name}: {used} entries for a list of {length}"));
         }
-        let written = BESIDE..BESIDE + used;
-        for (i, (now, old)) in self.now.iter().zip(&self.old).enumerate() {
-            let used = written.contains(&i);
-            let wanted = if used { &new[i - BESIDE] } else { old };
-            if now != wanted {
-                let place = i as isize - BESIDE as isize;
-                let which = if used { "used" } else { "unused" };
-                return Err(format!(
-                    "{name}: the {which} entry {place} of {length}\n  wanted {wanted:?}\n  got    {now:?}"
-                ));
-            }
+        let (from, to) = (BESIDE + start, BESIDE + used);
+        let wanted = [&self.old[..from], new, &self.old[to..]];
+        let now = [&self.now[..from], &self.now[from..to], &self.now[to..]];
+        if now == wanted {
+            return Ok(());
         }
-        Ok(())
+        let pairs = now.concat().into_iter().zip(wanted.concat());
+        let (i, (now, wanted)) = pairs
+            .enumerate()
+            .find(|(_, (now, wanted))| now != wanted)
+            .expect("a difference");
+        let place = i as isize - BESIDE as isize;
+        let which = if (from..to).contains(&i) {
+            "used"
+        } else {
+            "unused"
+        };
+        Err(format!(
+            "{name}: the {which} entry {place} of {length}\n  wanted {wanted:?}\n  got    {now:?}"
+        ))
     }
 }

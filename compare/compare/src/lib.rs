@@ -18,3 +18,4 @@ pub mod rust;
 pub mod shrink;
 pub mod sides;
 pub mod tally;
+pub mod trace;

@@ -6,7 +6,8 @@
 use std::process::exit;
 
 use compare::tally::Tally;
-use compare::{fixed, round};
+use compare::trace::tally::TraceTally;
+use compare::{fixed, round, trace};
 
 const SEED: u64 = 1;
 const ROUNDS: u64 = 20;
@@ -41,15 +42,17 @@ fn main() {
     println!("seed {seed}, {rounds} rounds");
     // a panic is told with its case
     std::panic::set_hook(Box::new(|_| {}));
-    let mut tally = Tally::default();
-    fixed::families(&mut tally).unwrap_or_else(|difference| fail(&difference, "--rounds 0"));
+    let (mut scenes, mut traces) = (Tally::default(), TraceTally::default());
+    let both = fixed::families(&mut scenes).and_then(|()| trace::fixed::families(&mut traces));
+    both.unwrap_or_else(|difference| fail(&difference, "--rounds 0"));
     for k in 0..rounds {
         let seed = seed.wrapping_add(k);
-        round::round(&mut tally, seed)
-            .unwrap_or_else(|difference| fail(&difference, &format!("--seed {seed} --rounds 1")));
+        let scenes = round::round(&mut scenes, seed);
+        let both = scenes.and_then(|()| trace::round::round(&mut traces, seed));
+        both.unwrap_or_else(|difference| fail(&difference, &format!("--seed {seed} --rounds 1")));
     }
-    println!("{tally}");
-    let missing = tally.missing();
+    println!("{scenes}\n{traces}");
+    let missing = [scenes.missing(), traces.missing()].concat();
     if !missing.is_empty() {
         println!("TOO LITTLE: {}", missing.join("; "));
         exit(1);

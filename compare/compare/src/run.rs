@@ -1,46 +1,47 @@
 //! Runs one case of a family. A difference is told in full, with its case made small.
+use std::fmt::Display;
 use std::panic::{AssertUnwindSafe, catch_unwind};
 
 use crate::builds::{Build, brief};
 use crate::case::Case;
 use crate::difference::Difference;
 use crate::order::same_answers;
-use crate::shrink::shrunk;
+use crate::shrink::{Shrink, shrunk};
 use crate::sides::{Agreed, compare};
 use crate::tally::Tally;
 
 /// Compares a case and counts it.
 pub fn run(tally: &mut Tally, family: &'static str, case: &Case) -> Result<Agreed, String> {
-    let agreed = compared(case).map_err(|difference| {
-        let same = |case: &Case| compared(case).is_err_and(|other| other.what == difference.what);
-        told_small(family, &difference, case, same)
-    })?;
+    let agreed = compared(family, case, compare)?;
     tally.add(family, &case.lists, &agreed);
     Ok(agreed)
 }
 
+/// Compares a case of any sort.
+pub fn compared<C: Shrink + Display, A>(
+    family: &str,
+    case: &C,
+    compare: fn(&C) -> Result<A, Difference>,
+) -> Result<A, String> {
+    let compared = |case: &C| caught(|| compare(case));
+    compared(case).map_err(|Difference { what, told }| {
+        let same = |case: &C| compared(case).is_err_and(|other| other.what == what);
+        let small = shrunk(case, same);
+        let again = match compared(&small) {
+            Err(difference) => difference.told,
+            Ok(_) => "as above".to_owned(),
+        };
+        format!("in the family '{family}', {what}: {told}\n{case}\n\nmade small: {again}\n{small}")
+    })
+}
+
 /// A side that panics has no answer; that is a difference too.
-fn compared(case: &Case) -> Result<Agreed, Difference> {
-    catch_unwind(AssertUnwindSafe(|| compare(case))).unwrap_or_else(|payload| {
+fn caught<A>(compare: impl FnOnce() -> Result<A, Difference>) -> Result<A, Difference> {
+    catch_unwind(AssertUnwindSafe(compare)).unwrap_or_else(|payload| {
         let text = payload.downcast_ref::<String>().map(String::as_str);
         let text = text.or(payload.downcast_ref::<&str>().copied());
         Err(Difference::new("a panic", text.unwrap_or("without a text")))
     })
-}
-
-fn told_small(
-    family: &str,
-    difference: &Difference,
-    case: &Case,
-    differs: impl Fn(&Case) -> bool,
-) -> String {
-    let Difference { what, told } = difference;
-    let small = shrunk(case, differs);
-    let again = match compared(&small) {
-        Err(difference) => difference.told,
-        Ok(_) => "as above".to_owned(),
-    };
-    format!("in the family '{family}', {what}: {told}\n{case}\n\nmade small: {again}\n{small}")
 }
 
 /// A build of document 01, whose answer is known beforehand.

@@ -7,12 +7,18 @@ use crate::case::Case;
 /// Tries no more than so many cases.
 const TRIES: usize = 5000;
 
+/// A case that can be made smaller.
+pub trait Shrink: Clone {
+    /// Smaller or plainer cases, great steps first.
+    fn smaller(&self) -> impl Iterator<Item = Self>;
+}
+
 /// `differs` says whether a case still shows the difference.
-pub fn shrunk(case: &Case, differs: impl Fn(&Case) -> bool) -> Case {
+pub fn shrunk<C: Shrink>(case: &C, differs: impl Fn(&C) -> bool) -> C {
     let mut best = case.clone();
     let mut tries = 0;
     loop {
-        let smaller = smaller_cases(&best).find(|case| {
+        let smaller = best.smaller().find(|case| {
             tries += 1;
             tries <= TRIES && differs(case)
         });
@@ -23,26 +29,31 @@ pub fn shrunk(case: &Case, differs: impl Fn(&Case) -> bool) -> Case {
     }
 }
 
-/// Smaller or plainer cases, great steps first.
-fn smaller_cases(case: &Case) -> impl Iterator<Item = Case> {
-    let lengths = case.lists.lengths();
-    let rows = lengths[..7].iter().all(|length| *length == lengths[0]);
-    let rows = rows && lengths[7..].iter().all(|length| *length == lengths[7]);
-    // lists of different lengths have no rows that could be left out
-    let (n, m) = if rows {
-        (lengths[0], lengths[7])
+impl Shrink for Case {
+    fn smaller(&self) -> impl Iterator<Item = Self> {
+        let lists = &self.lists;
+        let [n, m] = rows(&lists.lengths(), 7);
+        let connections = parts(m).map(|(from, to)| without_connections(lists, from, to));
+        let components = parts(n).map(|(from, to)| without_components(lists, from, to));
+        let left = connections.chain(components).map(|lists| self.with(lists));
+        left.chain(plainer(self))
+    }
+}
+
+/// The rows of the lists before `second`, and of those from there on. Lists of different lengths
+/// have no rows that could be left out.
+pub fn rows(lengths: &[usize], second: usize) -> [usize; 2] {
+    let (one, other) = lengths.split_at(second);
+    let even = |lengths: &[usize]| lengths.iter().all(|length| *length == lengths[0]);
+    if even(one) && even(other) {
+        [one[0], other[0]]
     } else {
-        (0, 0)
-    };
-    let connections =
-        parts(m).map(|(from, to)| case.with(without_connections(&case.lists, from, to)));
-    let components =
-        parts(n).map(|(from, to)| case.with(without_components(&case.lists, from, to)));
-    connections.chain(components).chain(plainer(case))
+        [0, 0]
+    }
 }
 
 /// Parts of so many rows: halves first, then quarters, and so on to single rows.
-fn parts(rows: usize) -> impl Iterator<Item = (usize, usize)> {
+pub fn parts(rows: usize) -> impl Iterator<Item = (usize, usize)> {
     let sizes = std::iter::successors(Some(rows.div_ceil(2)), |size| {
         (*size > 1).then_some(size.div_ceil(2))
     });

@@ -1,4 +1,4 @@
-//! Counts of what a run has reached.
+//! Counts of what a run has reached by scenes.
 use std::collections::{BTreeMap, BTreeSet};
 use std::fmt::{self, Display, Formatter};
 
@@ -20,9 +20,41 @@ struct Counts {
 
 /// Of one call: how often it refused by each number, and where.
 #[derive(Default)]
-struct Refusals {
+pub struct Refusals {
     numbers: BTreeMap<u32, usize>,
     places: BTreeSet<Refusal>,
+}
+
+impl Refusals {
+    pub fn add(&mut self, refusal: Option<Refusal>) {
+        if let Some((number, place)) = refusal {
+            *self.numbers.entry(number).or_default() += 1;
+            self.places.insert((number, place));
+        }
+    }
+
+    /// Which of these numbers and places the call has not reached.
+    pub fn missing(
+        &self,
+        call: &str,
+        numbers: impl IntoIterator<Item = u32>,
+        places: impl IntoIterator<Item = Refusal>,
+    ) -> Vec<String> {
+        let numbers = numbers.into_iter();
+        let numbers = numbers.filter(|number| !self.numbers.contains_key(number));
+        let numbers = numbers.map(|number| format!("{call} reached no refusal {number}"));
+        let places: BTreeSet<_> = places.into_iter().collect();
+        let places = places.difference(&self.places);
+        let places = places
+            .map(|(number, place)| format!("{call} reached no refusal {number} at place {place}"));
+        numbers.chain(places).collect()
+    }
+}
+
+impl Display for Refusals {
+    fn fmt(&self, out: &mut Formatter) -> fmt::Result {
+        write!(out, "{}", listed(&self.numbers))
+    }
 }
 
 const CALLS: [&str; 4] = ["check", "feedback", "describe", "assess"];
@@ -44,10 +76,7 @@ impl Tally {
             agreed.assess,
         ];
         for (refusals, refusal) in self.refusals.iter_mut().zip(calls) {
-            if let Some((number, place)) = refusal {
-                *refusals.numbers.entry(number).or_default() += 1;
-                refusals.places.insert((number, place));
-            }
+            refusals.add(refusal);
         }
         let counts = self.counts(family);
         counts.cases += 1;
@@ -77,16 +106,8 @@ impl Tally {
         let lists: [&[usize]; 4] = [&all, &[4], DescribeLists::LISTS, AssessLists::LISTS];
         let mut missing = Vec::new();
         for ((call, refusals), lists) in CALLS.iter().zip(&self.refusals).zip(lists) {
-            let numbers = (1..=8).filter(|number| !refusals.numbers.contains_key(number));
-            missing.extend(numbers.map(|number| format!("{call} reached no refusal {number}")));
             let places = lists.iter().map(|list| (7, *list as u64));
-            let places: BTreeSet<_> = places.chain([(8, 0), (8, 1)]).collect();
-            let unseen = places
-                .iter()
-                .filter(|place| !refusals.places.contains(place));
-            missing.extend(unseen.map(|(number, place)| {
-                format!("{call} reached no refusal {number} at place {place}")
-            }));
+            missing.extend(refusals.missing(call, 1..=8, places.chain([(8, 0), (8, 1)])));
         }
         let unseen = WANTED.iter().filter(|name| !self.shown.contains_key(*name));
         missing.extend(unseen.map(|name| format!("no answer showed '{name}'")));
@@ -112,13 +133,13 @@ impl Display for Tally {
         }
         writeln!(out, "all                     {total:>8}")?;
         for (call, refusals) in CALLS.iter().zip(&self.refusals) {
-            writeln!(out, "refusals by {call}: {}", listed(&refusals.numbers))?;
+            writeln!(out, "refusals by {call}: {refusals}")?;
         }
         write!(out, "scenes that show {}", listed(&self.shown))
     }
 }
 
-fn listed<K: Display>(counts: &BTreeMap<K, usize>) -> String {
+pub fn listed<K: Display>(counts: &BTreeMap<K, usize>) -> String {
     let shown: Vec<_> = counts
         .iter()
         .map(|(name, count)| format!("{name}: {count}"))

@@ -46,7 +46,7 @@ pub fn push_any_component(rng: &mut Rng, lists: &mut SceneLists, id: u64, kind: 
 }
 
 /// Different ids, in any order: small ones, ones up to 2^64 - 1, any, or all of these.
-fn ids(rng: &mut Rng, n: usize) -> Vec<u64> {
+pub fn ids(rng: &mut Rng, n: usize) -> Vec<u64> {
     let style = rng.below(4);
     let mut ids = BTreeSet::new();
     while ids.len() < n {

@@ -1,4 +1,4 @@
-//! Scenes in number lists: random ones by shape, every small one, and damaged ones.
+//! Scenes and traces in number lists: random ones by shape, every small one, and damaged ones.
 pub mod damage;
 pub mod faulty;
 pub mod fill;
@@ -9,3 +9,4 @@ pub mod shapes;
 pub mod sketch;
 pub mod small;
 pub mod timing;
+pub mod trace;

@@ -1,4 +1,4 @@
-//! A small random generator of our own (SplitMix64), so that a seed gives the same scenes everywhere.
+//! A small random generator of our own (SplitMix64): a seed gives the same cases everywhere.
 
 pub struct Rng(u64);
 

@@ -8,6 +8,7 @@ mod run;
 mod scene;
 mod search;
 mod sort;
+mod trace;
 
 use std::process::exit;
 use std::thread;
@@ -19,11 +20,13 @@ use run::{Outcome, Run};
 /// With `--stack` all of it runs in a thread that has so much stack.
 const USAGE: &str = "growth [--stack KIB] sort N SEED
 growth [--stack KIB] search N SEED
-growth [--stack KIB] mark|reconverge|check|feedback SHAPE N SEED";
+growth [--stack KIB] mark|reconverge|check|feedback SHAPE N SEED
+growth [--stack KIB] trace TRACE N SEED";
 
 fn misused() -> ! {
     let shapes = graphs::SHAPES.map(|shape| shape.0).join(", ");
-    eprintln!("{USAGE}\nN is 1 or more; shapes: {shapes}");
+    let traces = trace::SHAPES.map(|shape| shape.0).join(", ");
+    eprintln!("{USAGE}\nN is 1 or more; shapes: {shapes}; traces: {traces}");
     exit(2)
 }
 
@@ -48,6 +51,11 @@ fn run(words: &[&str]) -> Outcome {
                 "search" => search::run(&mut rng, n),
                 _ => misused(),
             }
+        }
+        ["trace", shape, n, seed] => {
+            let (n, mut rng) = input(n, seed);
+            let lists = trace::lists(&mut rng, shape, n).unwrap_or_else(|| misused());
+            trace::run(&lists)
         }
         [name, shape, n, seed] => {
             let (n, mut rng) = input(n, seed);

@@ -9,3 +9,4 @@ pub mod marking;
 pub mod ordering;
 pub mod path;
 pub mod reconvergent;
+pub mod traces;

@@ -4,6 +4,8 @@ pub mod CallReordering
 pub mod CallReasons
 pub mod CallRefusals
 pub mod DescribeReordering
+-- what the trace call and recording promise
+pub mod TraceCalls
 -- that the two calls on one scene part only by the room of their lists
 pub mod CallsTogether
 -- what the entries in use of an accepted call are

@@ -1,21 +1,22 @@
 -- The recording of a trace, case by case. Assumes nothing.
 use mathlib.Core.Bool.{Bool, true, false, not, _||_}
 use mathlib.Core.List.{List, [], _∷_}
-use mathlib.Core.Path.{_≡_, refl, sym, ap, subst, _∙_}
+use mathlib.Core.Path.{_≡_, refl, sym, ap, _∙_}
 use Prim.Native.Nat.{ℕ, suc, _+_, _*_, _<_, _≤_, _^_}
 use native.Mathlib.Omega.{arith}
-use lib.Dec.{T, T-not, not-T, eqb, leb, le→leb, leb→le, ltb, lt→ltb}
-use lib.ListN.{length, getD}
+use native.Mathlib.Numerals.{add-one}
+use lib.Dec.{T, T-not, not-T, eqb, leb, le→leb, leb→le, ltb}
+use lib.ListN.{length}
 use Rattle.rules.specs.Lists.{sum}
 use Rattle.rules.specs.Refusals.{test, firstRefusal}
 use Rattle.rules.specs.Verdicts.{tallies, FindingLists, findingLengths, FindingsListed}
-use Rattle.rules.specs.Traces.{traceLimits, TraceLists, eventCount, traceTests, traceFindings, transientAnswer, transientAssessment, transientNumbers, AssessedBy, TraceCallFrom}
-use Rattle.rules.specs.Recording.{TransientRecord, recordFalse, recordTests, checkRecording, addTallies, grown, findingsAfter, recordAfter, RecordCall}
+use Rattle.rules.specs.Traces.{traceLimits, TraceLists, eventCount, traceTests, traceFindings, transientAnswer, transientAssessment, transientNumbers, TraceCallFrom}
+use Rattle.rules.specs.Recording.{TransientRecord, recordFalse, recordTests, checkRecording, addTallies, grown, RecordCall}
 use Rattle.rules.specs.declared.answers.Checked.{Checked}
 use Rattle.rules.specs.declared.answers.Checked.the-variants.{Accepted, Refused}
 use Rattle.rules.specs.declared.transient.TransientAnswer.the-variants as Answer
 use Rattle.rules.specs.declared.transient.TransientAssessment.{TransientAssessment}
-use Rattle.rules.proofs.Lists.{same-test, or-left, or-right, or-none}
+use Rattle.rules.proofs.Lists.{same-test, or-left, or-right}
 use Rattle.rules.proofs.FirstRefusal.{stop, more, within, flag-set, flag-clear}
 use Rattle.rules.proofs.TraceAcceptance.{RecordTrue, not-false→true, accepted→trace}
 use Rattle.laws.proofs.TraceRoom.{findings-fit, tallies-sum}
@@ -135,3 +136,9 @@ module _ (r : TransientRecord) (t : TraceLists) (old : FindingLists) where
                 let s : Accepted ≡ checked = sym was-accepted ∙ then-traced refl in
                 let q : Answer.Assessed f c ≡ transientAnswer Accepted t = sym e ∙ ap (λ x. x .answer) assessed-by in
                 rw (← s) (record { numbered = ap transientNumbers q; recorded = g ∙ rw (found, tallied); listed = rw was-accepted at (call .listed) })
+
+-- The record with one trace more
+
+pub one-trace-more : (traces findings found : ℕ) {sums sums′ : List ℕ} → sums ≡ sums′
+    → _≡_ {A = TransientRecord} (record { traces = traces + 1; findings = findings + found; tallies = sums }) (record { traces = suc traces; findings = findings + found; tallies = sums′ })
+one-trace-more traces findings found e = rw (add-one traces, e)

@@ -4,13 +4,10 @@ use mathlib.Core.List.{List, [], _∷_, map}
 use mathlib.Core.Path.{_≡_, sym, _∙_}
 use Prim.Native.Nat.{ℕ, _+_, _-_, _<_, _≤_}
 use native.Mathlib.Omega.{arith}
-use lib.Dec.{T, ltb, ltb→lt, lt→ltb}
-use lib.ListN.{length}
+use lib.Dec.{ltb, ltb→lt, lt→ltb}
 use Rattle.rules.specs.Lists.{any, indices}
 use Rattle.rules.specs.Refusals.{Test, test, firstRefusal, output, outputTest, lengthsDiffer, rows}
 use Rattle.rules.specs.Traces.{TraceLimits, TraceLists, eventCount, contractCount, eventLengths, contractLengths, eventTest, contractTests, valueTests, traceTests}
-use Rattle.rules.specs.Pulses.{EventsAligned}
-use Rattle.rules.specs.Verdicts.{ContractsAligned}
 use Rattle.rules.specs.declared.answers.Checked.{Checked}
 use Rattle.rules.specs.declared.answers.Checked.the-variants.{Accepted, Refused}
 use Rattle.rules.proofs.Lists.{same-test, or-left, or-none}

@@ -2,7 +2,7 @@
 use mathlib.Core.Bool.{Bool, true, false, cond}
 use mathlib.Core.List.{List, [], _∷_, _++_, map, map-append}
 use mathlib.Core.Path.{_≡_, refl, sym, ap, subst, _∙_}
-use Prim.Native.Nat.{ℕ, suc, _+_, _<_, _≤_}
+use Prim.Native.Nat.{ℕ, _+_, _<_, _≤_}
 use native.Mathlib.Omega.{arith}
 use lib.Dec.{eqb}
 use lib.ListN.{length, getD, set, replicate}
@@ -21,8 +21,8 @@ use Rattle.rules.proofs.Counts.{count-append, count-under, count-every}
 use Rattle.rules.proofs.Indices.{indices-more, made-length, made-at}
 use Rattle.rules.proofs.Made.{made-map}
 use Rattle.laws.proofs.TraceRoom.{verdict-below}
-use Rattle.transient.specs.Judged.{pulseWith}
-use Rattle.transient.proofs.VerdictSteps.{classify-with}
+use Rattle.verdicts.specs.Given.{pulseWith}
+use Rattle.verdicts.proofs.VerdictSteps.{classify-with}
 
 -- The verdict on one pulse
 

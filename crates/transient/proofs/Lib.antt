@@ -4,7 +4,7 @@ pub mod CheckSteps
 -- its pulses, their fields and verdicts:
 pub mod PulseSteps
 pub mod FieldSteps
-pub mod VerdictSteps
+pub mod ContractSteps
 pub mod JudgeSteps
 -- the whole call:
 pub mod TraceSteps

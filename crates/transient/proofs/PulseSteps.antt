@@ -1,52 +1,18 @@
 -- The windows of a row of events, one after the other. Assumes nothing.
-use mathlib.Core.Bool.{Bool, true, false, not, cond, Bool·beq, _&&_}
+use mathlib.Core.Bool.{Bool, true, false, not, cond, _&&_}
 use mathlib.Core.List.{List, [], _∷_, _++_, append-nil}
-use mathlib.Core.Path.{_≡_, refl, sym, ap, subst, _∙_}
+use mathlib.Core.Path.{_≡_, refl, ap, _∙_}
 use Prim.Native.Nat.{ℕ, suc, _+_, _-_, _<_, _≤_}
 use native.Mathlib.Omega.{arith}
 use lib.Dec.{T, eqb, eqb→eq}
 use lib.ListN.{length, getD, take, set, length-append}
 use lib.Seq.{take-suc-set, take-set-le}
 use Rattle.rules.specs.Lists.{keep, from, indices}
-use Rattle.rules.specs.Pulses.{EventLists, eventLists, eventAt, agree, isPowered, isPulse}
+use Rattle.rules.specs.Pulses.{EventLists, eventLists, eventAt, isPulse}
 use Rattle.rules.specs.Windows.{windowPulse, windowPlaces}
 use Rattle.rules.proofs.Lists.{same-test, and-left, and-right, and-both, eq-test, keep-append}
 use Rattle.rules.proofs.Indices.{indices-more}
-use Rattle.transient.specs.Row.{EventRow, PulsesFound}
-
--- The levels of three events: a, b and c
-
-no : true ≡ false → ⊥
-no e = subst T e tt
-
-pub ends-differ : (a b c t : Bool) → not (Bool·beq c a) ≡ true → false ≡ (agree a c && (not (agree a b) && t))
-ends-differ true b true t e = absurd (no (sym e))
-ends-differ true b false t e = refl
-ends-differ false b true t e = refl
-ends-differ false b false t e = absurd (no (sym e))
-
-module _ (a b c t : Bool) (same : not (Bool·beq c a) ≡ false) where
-  pub middle-same : Bool·beq b a ≡ true → false ≡ (agree a c && (not (agree a b) && t))
-  middle-same = go a b c same
-    where
-      go : (a b c : Bool) → not (Bool·beq c a) ≡ false → Bool·beq b a ≡ true → false ≡ (agree a c && (not (agree a b) && t))
-      go true true true s e = refl
-      go true false c s e = absurd (no (sym e))
-      go true true false s e = absurd (no s)
-      go false true c s e = absurd (no (sym e))
-      go false false true s e = absurd (no s)
-      go false false false s e = refl
-
-  pub middle-differs : Bool·beq b a ≡ false → t ≡ (agree a c && (not (agree a b) && t))
-  middle-differs = go a b c same
-    where
-      go : (a b c : Bool) → not (Bool·beq c a) ≡ false → Bool·beq b a ≡ false → t ≡ (agree a c && (not (agree a b) && t))
-      go true true c s e = absurd (no e)
-      go true false true s e = refl
-      go true false false s e = absurd (no s)
-      go false true true s e = absurd (no s)
-      go false true false s e = refl
-      go false false c s e = absurd (no e)
+use Rattle.transient.specs.Row.{PulsesFound}
 
 -- One window
 

@@ -1,11 +1,10 @@
 -- The tests of events and contracts, row by row. Assumes nothing.
-use mathlib.Core.Bool.{Bool, true, false, _&&_, _||_}
+use mathlib.Core.Bool.{Bool, true, false, _&&_}
 use mathlib.Core.List.{List, [], _∷_, map, flatMap}
-use mathlib.Core.Path.{_≡_, refl, sym, ap, subst, _∙_}
-use mathlib.Core.Logic.{_⊎_, inl, inr, ⊎-elim}
+use mathlib.Core.Path.{_≡_, refl, ap, _∙_}
 use Prim.Native.Nat.{ℕ, suc, _+_, _-_, _<_, _≤_}
 use native.Mathlib.Omega.{arith}
-use lib.Dec.{T, eqb, leb, ltb, lt→ltb}
+use lib.Dec.{T, leb, ltb, lt→ltb}
 use lib.ListN.{length, getD}
 use Rattle.rules.specs.Lists.{indices}
 use Rattle.rules.specs.Refusals.{Test, test, firstRefusal, rows}
@@ -14,8 +13,8 @@ use Rattle.rules.specs.Verdicts.{ContractLists, contractAt}
 use Rattle.rules.specs.Traces.{contractOutOfRange, notAboveBefore, eventTest, contractTests}
 use Rattle.rules.specs.declared.answers.Checked.{Checked}
 use Rattle.rules.specs.declared.answers.Checked.the-variants.{Accepted, Refused}
-use Rattle.rules.proofs.Lists.{same-test, or-left, or-right, or-cases, and-right, and-both}
-use Rattle.rules.proofs.Sums.{order}
+use Rattle.rules.proofs.Lists.{same-test, and-right, and-both}
+use Rattle.verdicts.proofs.ContractSteps.{range}
 use Rattle.rules.proofs.FirstRefusal.{stop, more, end, within, flag-set, flag-clear, rows-more, rows-stop}
 
 -- A row of one test each
@@ -41,42 +40,6 @@ module _ (l : EventLists) where
     pub next-event : getD (l .powered) i 0 ≤ 1 → Accepted ≡ eventRows l (i + 1)
     unfolding eventAt
     next-event h = let e : i + 1 ≡ suc i = omega arith in rw e (rows-more (λ k. eventTest l k ∷ []) i before (more (eventTest l i) [] (within 1 (getD (l .powered) i 0) h) end))
-
--- The range of a contract's values, intent by intent
-
-or-false : (b : Bool) → b ≡ (b || false)
-or-false true = refl
-or-false false = refl
-
-module _ (powered polarity unit : ℕ) where
-  abbrev pub range : ℕ → Bool
-  range intent = ltb 3 intent || ((eqb intent 1 && ltb 1 powered) || ((eqb intent 2 || eqb intent 3) && (ltb 1 polarity || ltb 1 unit)))
-
-  pub no-such-intent : (intent : ℕ) → 3 < intent → true ≡ range intent
-  no-such-intent intent h = same-test true (range intent) (λ t. or-left (ltb 3 intent) _ (lt→ltb 3 intent h)) (λ t. tt)
-
-  pub steady-range : (intent : ℕ) → intent ≡ 0 → false ≡ range intent
-  steady-range intent e = rw e
-
-  pub stable-range : (intent : ℕ) → intent ≡ 1 → ltb 1 powered ≡ range intent
-  stable-range intent e = rw e (or-false (ltb 1 powered))
-
-  pub pulse-range : (intent : ℕ) → intent ≤ 3 → (intent ≡ 0 → ⊥) → (intent ≡ 1 → ⊥) → (ltb 1 polarity || ltb 1 unit) ≡ range intent
-  pulse-range intent h a b = go (order intent 2)
-    where
-      go : (intent ≤ 2) ⊎ (2 < intent) → (ltb 1 polarity || ltb 1 unit) ≡ range intent
-      go (inl k) = let e : intent ≡ 2 = omega (arith, a, b) in rw e
-      go (inr k) = let e : intent ≡ 3 = omega arith in rw e
-
-  pub polarity-range : (intent : ℕ) → intent ≤ 3 → (intent ≡ 0 → ⊥) → (intent ≡ 1 → ⊥) → 1 < polarity → true ≡ range intent
-  polarity-range intent h a b out = same-test true (ltb 1 polarity || ltb 1 unit) (λ t. or-left (ltb 1 polarity) _ (lt→ltb 1 polarity out)) (λ t. tt) ∙ pulse-range intent h a b
-
-  pub unit-range : (intent : ℕ) → intent ≤ 3 → (intent ≡ 0 → ⊥) → (intent ≡ 1 → ⊥) → polarity ≤ 1 → ltb 1 unit ≡ range intent
-  unit-range intent h a b fits =
-      same-test (ltb 1 unit) (ltb 1 polarity || ltb 1 unit) (λ t. or-right (ltb 1 polarity) _ t) (λ t. ⊎-elim (λ s. absurd (within 1 polarity fits s)) (λ s. s) (cases t)) ∙ pulse-range intent h a b
-    where
-      cases : T (ltb 1 polarity || ltb 1 unit) → T (ltb 1 polarity) ⊎ T (ltb 1 unit)
-      cases t = or-cases (ltb 1 polarity) (ltb 1 unit) t
 
 -- The order of the contracts
 

@@ -1,19 +1,19 @@
 -- The trace call, part by part. Assumes nothing.
 use mathlib.Core.Bool.{Bool}
-use mathlib.Core.List.{List, [], _∷_, map, map-map, List·Memᴰ, List·Memᴰ·head, List·Memᴰ·tail}
+use mathlib.Core.List.{List, [], _∷_, map, map-map, List·Memᴰ·head, List·Memᴰ·tail}
 use mathlib.Core.Path.{_≡_, refl, sym, ap, subst, _∙_}
-use Prim.Native.Nat.{ℕ, _+_, _<_, _≤_}
+use Prim.Native.Nat.{ℕ, _+_, _≤_}
 use native.Mathlib.Nat.{zero-add}
 use native.Mathlib.Omega.{arith}
-use lib.ListN.{length, getD, take, replicate, length-map}
+use lib.ListN.{length, take, replicate, length-map}
 use Rattle.rules.specs.Lists.{writtenFrom}
-use Rattle.rules.specs.Ordered.{ordered, Rises}
+use Rattle.rules.specs.Ordered.{ordered}
 use Rattle.rules.specs.Codes.{unitOf}
-use Rattle.rules.specs.Refusals.{Test, test, firstRefusal, shortest, output, outputTest, afterFrom}
-use Rattle.rules.specs.Pulses.{EventLists, EventsAligned, eventLists, eventsOf, eventAt, pulseOf}
+use Rattle.rules.specs.Refusals.{firstRefusal, shortest}
+use Rattle.rules.specs.Pulses.{EventLists, EventsAligned, eventLists, eventsOf, pulseOf}
 use Rattle.rules.specs.Verdicts.{Contract, ContractLists, contractsOf, Finding, findingOf, findings, tallies, FindingLists, findingLists, findingLengths, FindingsListed, findingComponent, findingPolarity, findingUnit, findingStartTick, findingEndTick, findingWidth, findingSteady, findingBaseline, findingStart, findingEnd, findingVerdict, findingRationale}
 use Rattle.rules.specs.Windows.{windowPlaces, pulseAt}
-use Rattle.rules.specs.Traces.{TraceLimits, traceLimits, TraceLists, traceLists, eventCount, contractCount, valueTests, traceTests, checkTrace, traceFindings, transientAnswer, transientAssessment, transientNumbers, AssessedBy, TraceCall, TraceCallFrom}
+use Rattle.rules.specs.Traces.{TraceLimits, traceLimits, TraceLists, traceLists, eventCount, contractCount, traceTests, checkTrace, traceFindings, AssessedBy, TraceCall, TraceCallFrom}
 use Rattle.rules.specs.declared.answers.Checked.{Checked}
 use Rattle.rules.specs.declared.answers.Checked.the-variants.{Accepted, Refused}
 use Rattle.rules.specs.declared.transient.TransientAnswer.the-variants as Answer

@@ -1,23 +1,12 @@
 -- What the judging of pulses takes and gives. Assumes nothing: these are definitions.
-use mathlib.Core.Bool.{false}
 use mathlib.Core.List.{List, map, List·Memᴰ}
 use mathlib.Core.Path.{_≡_}
 use Prim.Native.Nat.{ℕ, _+_, _≤_}
 use Rattle.rules.specs.Lists.{writtenFrom}
 use Rattle.rules.specs.Codes.{unitOf}
-use Rattle.rules.specs.Pulses.{EventLists, Pulse}
+use Rattle.rules.specs.Pulses.{EventLists}
 use Rattle.rules.specs.Verdicts.{Contract, Finding, findingOf, findingVerdict, findingRationale, tallies, FindingLists, findingLengths, FindingsListed}
 use Rattle.rules.specs.Windows.{pulseAt}
-use Rattle.rules.specs.declared.transient.PulsePolarity.{PulsePolarity}
-use Rattle.rules.specs.declared.transient.TraceTimeUnit.{TraceTimeUnit}
-
--- a contract and a pulse of which only what counts for a verdict is given: the other fields are 0
-abbrev pub contractWith : (intent powered polarity unit smallest largest : ℕ) → Contract
-contractWith i p q u s l = record { component = 0; intent = i; powered = p; polarity = q; unit = u; smallest = s; largest = l }
-
-abbrev pub pulseWith : PulsePolarity → TraceTimeUnit → (width : ℕ) → Pulse
-pulseWith polarity unit width =
-    record { component = 0; polarity = polarity; unit = unit; startTick = 0; endTick = 0; width = width; steady = false; baselineEvent = 0; startEvent = 0; endEvent = 0 }
 
 -- what the lists of verdicts and rationales hold after an entry was written for each place at which a pulse begins, and the tallies
 module _ (cs : List Contract) (unit : ℕ) (l : EventLists) (row places : List ℕ) (start : ℕ) where

@@ -1,36 +1,11 @@
 // The fields of list 9 that are the pulses' own.
-ghost use mathlib.Core.Path.{_≡_};
-ghost use mathlib.Core.Bool.{cond};
-ghost use Prim.Native.Nat.{_-_, _≤_};
+ghost use Prim.Native.Nat.{_≤_};
 ghost use lib.ListN.{length};
-ghost use Rattle.rules.specs.Codes.{polarityCode};
-ghost use Rattle.rules.specs.Pulses.{eventLists, isPowered};
+ghost use Rattle.rules.specs.Pulses.{eventLists};
 ghost use Rattle.transient.specs.Row.{Windows, Room, PulsesListed, EvidenceListed};
-ghost use Rattle.rules.specs.declared.transient.PulsePolarity.the-variants.{High, Low};
-
-// The number of the polarity of a pulse of this level: High where it is powered.
-pub(crate) fn level_polarity(powered: u8) -> u8
-    ensures { λ r. ⌜ r ≡ polarityCode (cond (isPowered powered) High Low) ⌝ }
-{
-    if 0 < powered { 0 } else { 1 }
-}
-
-// The time from one tick to a later one; 0 where it is not later.
-pub(crate) fn width(start_tick: u64, end_tick: u64) -> u64
-    ensures { λ r. ⌜ r ≡ «end_tick» - «start_tick» ⌝ }
-{
-    if end_tick < start_tick {
-        return 0;
-    }
-    end_tick - start_tick
-}
-
-// 1 for powered, 0 for not.
-fn level(powered: u8) -> u8
-    ensures { λ r. ⌜ r ≡ cond (isPowered powered) 1 0 ⌝ }
-{
-    if 0 < powered { 1 } else { 0 }
-}
+use verdicts::pulse::level;
+use verdicts::pulse::level_polarity;
+use verdicts::pulse::width;
 
 // Writes an entry for each place at which a pulse begins, from start on: whose pulse it is, and when.
 pub(crate) fn list_pulses(

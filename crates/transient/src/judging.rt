@@ -9,14 +9,14 @@ ghost use Rattle.rules.specs.Verdicts.{contractLists, contractsOf, ContractsAli
 ghost use Rattle.rules.specs.Windows.{pulseAt};
 ghost use Rattle.transient.specs.Row.{EventRow, Windows, Room};
 ghost use Rattle.transient.specs.Judged.{PulsesJudged};
-use crate::fields::level_polarity;
-use crate::fields::width;
-use crate::verdicts::classify;
-use crate::verdicts::design_intent;
+use crate::contracts::design_intent;
 use rules::transient::Judgement;
 use tables::codes::polarity_of;
 use tables::codes::unit_of;
 use tables::codes::verdict_code;
+use verdicts::classify::classify;
+use verdicts::pulse::level_polarity;
+use verdicts::pulse::width;
 
 // The verdict on the pulse that begins at a place of the row, by the contract of its component.
 fn judge(

@@ -1,26 +1,12 @@
 // The pulses of a trace: windows of three successive events of one component.
 ghost use mathlib.Core.Path.{_≡_};
-ghost use mathlib.Core.Bool.{cond, not, _&&_};
+ghost use mathlib.Core.Bool.{cond};
 ghost use Prim.Native.Nat.{_+_, _<_, _≤_};
-ghost use lib.Dec.{ltb};
 ghost use lib.ListN.{length};
-ghost use Rattle.rules.specs.Pulses.{eventLists, isPowered, agree};
+ghost use Rattle.rules.specs.Pulses.{eventLists};
 ghost use Rattle.rules.specs.Windows.{windowPulse};
 ghost use Rattle.transient.specs.Row.{EventRow, PulsesFound};
-
-// Whether three levels and the ticks of the last two make a pulse.
-fn is_pulse(first: u8, second: u8, third: u8, start_tick: u64, end_tick: u64) -> bool
-    ensures { λ r. ⌜ r ≡ (agree (isPowered first) (isPowered third) && (not (agree (isPowered first) (isPowered second)) && ltb «start_tick» «end_tick»)) ⌝ }
-{
-    let powered = 0 < first;
-    if (0 < third) != powered {
-        return false;
-    }
-    if (0 < second) == powered {
-        return false;
-    }
-    start_tick < end_tick
-}
+use verdicts::pulse::is_pulse;
 
 // Whether a pulse begins at a place of the row of positions. The row rises by component, so that the events between two
 // of one component are of that component too.

@@ -1,9 +1,7 @@
 // The tests of events and contracts, one by one: 11 and 12.
 ghost use mathlib.Core.Path.{_≡_};
-ghost use mathlib.Core.Bool.{_&&_, _||_};
 ghost use mathlib.Core.List.{map};
 ghost use Prim.Native.Nat.{_<_};
-ghost use lib.Dec.{eqb, ltb};
 ghost use lib.ListN.{length};
 ghost use Rattle.rules.specs.Lists.{indices};
 ghost use Rattle.rules.specs.Refusals.{firstRefusal, rows};
@@ -11,6 +9,7 @@ ghost use Rattle.rules.specs.Pulses.{eventLists};
 ghost use Rattle.rules.specs.Verdicts.{contractLists, ContractsAligned};
 ghost use Rattle.rules.specs.Traces.{notAboveBefore, eventTest, contractTests};
 use rules::answers::Checked;
+use verdicts::contract::out_of_range;
 
 // 11 for the events, in order.
 pub(crate) fn check_events(ticks: &[u64], components: &[u64], powered: &[u8]) -> Checked
@@ -28,25 +27,6 @@ pub(crate) fn check_events(ticks: &[u64], components: &[u64], powered: &[u8]) ->
         i += 1;
     }
     Checked::Accepted
-}
-
-// Whether a value that a contract's intent uses is out of its range. The others are not looked at.
-fn out_of_range(intent: u8, powered: u8, polarity: u8, unit: u8) -> bool
-    ensures { λ r. ⌜ r ≡ (ltb 3 intent || ((eqb intent 1 && ltb 1 powered) || ((eqb intent 2 || eqb intent 3) && (ltb 1 polarity || ltb 1 unit)))) ⌝ }
-{
-    if 3 < intent {
-        return true;
-    }
-    if intent == 0 {
-        return false;
-    }
-    if intent == 1 {
-        return 1 < powered;
-    }
-    if 1 < polarity {
-        return true;
-    }
-    1 < unit
 }
 
 // Whether the component of a contract is not above the one before.

@@ -1,5 +1,4 @@
 // The call that judges a trace and writes list 9.
-ghost use mathlib.Core.Path.{_≡_};
 ghost use Prim.Native.Nat.{_≤_};
 ghost use lib.ListN.{length};
 ghost use Rattle.rules.specs.Ordered.{Rises};

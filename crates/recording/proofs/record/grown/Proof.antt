@@ -1,7 +1,6 @@
 -- One trace more. Assumes nothing.
 use borrow.Author.Needs.{needs}
-use mathlib.Core.Path.{refl}
-use native.Mathlib.Numerals.{add-one}
+use Rattle.recording.proofs.RecordSteps.{one-trace-more}
 use borrow.Author.Needs.{needs}
 use Rattle.recording.proofs.record.grown.Statement.{statement}
 use Rattle.recording.proofs.record.grown.Tie as tie
@@ -16,7 +15,7 @@ add-t8 : tie.Need-add-t8
 add-t8 c = search needs
 
 returns : tie.Need-returns
-returns c = rw (c .add-tallies .ensures, add-one (c .before .args .traces))
+returns c = one-trace-more (c .before .args .traces) (c .before .args .findings) (c .before .args .found) (c .add-tallies .ensures)
 
 pub grown-spec : {M : Type 1} → statement M
 grown-spec = tie.close (tie.spec add-tallies-requires add-t7 add-t8 returns)

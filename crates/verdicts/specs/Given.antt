@@ -1,0 +1,14 @@
+-- A contract and a pulse of which only what counts for a verdict is given: the other fields are 0. Assumes nothing: these are definitions.
+use mathlib.Core.Bool.{false}
+use Prim.Native.Nat.{ℕ}
+use Rattle.rules.specs.Pulses.{Pulse}
+use Rattle.rules.specs.Verdicts.{Contract}
+use Rattle.rules.specs.declared.transient.PulsePolarity.{PulsePolarity}
+use Rattle.rules.specs.declared.transient.TraceTimeUnit.{TraceTimeUnit}
+
+abbrev pub contractWith : (intent powered polarity unit smallest largest : ℕ) → Contract
+contractWith i p q u s l = record { component = 0; intent = i; powered = p; polarity = q; unit = u; smallest = s; largest = l }
+
+abbrev pub pulseWith : PulsePolarity → TraceTimeUnit → (width : ℕ) → Pulse
+pulseWith polarity unit width =
+    record { component = 0; polarity = polarity; unit = unit; startTick = 0; endTick = 0; width = width; steady = false; baselineEvent = 0; startEvent = 0; endEvent = 0 }
