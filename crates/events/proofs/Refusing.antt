@@ -1,19 +1,19 @@
 -- The trace call refuses more events than a trace may have, and contract lists that differ in length before them. Assumes nothing.
 use mathlib.Core.List.{[], _∷_}
-use mathlib.Core.Path.{_≡_, refl, sym, ap, subst, _∙_}
+use mathlib.Core.Path.{_≡_, sym, subst, _∙_}
 use Prim.Native.Nat.{ℕ, _<_, _≤_}
 use native.Mathlib.Omega.{arith}
 use lib.Dec.{T, ltb, lt→ltb}
 use lib.ListN.{length, take, replicate}
-use Rattle.rules.specs.Refusals.{lengthsDiffer, after}
+use Rattle.rules.specs.Refusals.{lengthsDiffer}
 use Rattle.rules.specs.Pulses.{EventLists, eventLists}
-use Rattle.rules.specs.Verdicts.{ContractLists, FindingLists, findingLengths, FindingsListed}
-use Rattle.rules.specs.Traces.{TraceLists, traceLimits, traceLists, eventLengths, contractLengths, eventCount, traceTests, checkTrace, traceFindings, transientNumbers, transientAnswer, transientAssessment, TraceCall}
-use Rattle.rules.specs.declared.answers.Checked.{Checked}
+use Rattle.rules.specs.Verdicts.{ContractLists, FindingLists, findingLengths}
+use Rattle.rules.specs.Traces.{TraceLists, traceLimits, traceLists, eventLengths, contractLengths, eventCount, traceTests, checkTrace, TraceCall}
 use Rattle.rules.specs.declared.answers.Checked.the-variants.{Refused}
 use Rattle.rules.specs.declared.transient.TransientAnswer.the-variants as Answer
 use Rattle.rules.specs.declared.transient.TransientAssessment.{TransientAssessment}
 use Rattle.rules.proofs.FirstRefusal.{stop, more, same-all}
+use Rattle.rules.proofs.TraceAcceptance.{refused-assessed}
 use Rattle.events.specs.declared.counted.CountedEvents.{CountedEvents}
 use Rattle.events.specs.Counted.{Sized, Counted}
 
@@ -22,27 +22,7 @@ abbrev refusal : ℕ → ℕ → TransientAssessment
 refusal number place = record { answer = Answer.Refused number place; tallies = replicate 5 0 }
 
 refused-call : (t : TraceLists) (old : FindingLists) (number place : ℕ) → Refused number place ≡ checkTrace traceLimits t (findingLengths old) → TraceCall traceLimits t old old (refusal number place)
-refused-call t old number place e = record {
-  assessed = ap (λ c. transientAssessment c t) e;
-  numbered = ap (λ c. transientNumbers (transientAnswer c t)) e;
-  listed = subst (λ (c : Checked). FindingsListed (after c) (traceFindings t) old old) e kept;
-}
-  where
-    kept : FindingsListed (after (Refused number place)) (traceFindings t) old old
-    kept = record {
-      components-listed = refl;
-      polarities-listed = refl;
-      units-listed = refl;
-      start-ticks-listed = refl;
-      end-ticks-listed = refl;
-      widths-listed = refl;
-      steady-listed = refl;
-      baselines-listed = refl;
-      starts-listed = refl;
-      ends-listed = refl;
-      verdicts-listed = refl;
-      rationales-listed = refl;
-    }
+refused-call t old number place e = refused-assessed old (sym e)
 
 module _ (count unit : ℕ) (l : EventLists) (contracts : ContractLists) (old : FindingLists) (s : Sized count l) where
   aligned : T (lengthsDiffer (eventLengths l)) → ⊥

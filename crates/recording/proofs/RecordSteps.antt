@@ -9,7 +9,7 @@ use lib.Dec.{T, T-not, not-T, eqb, leb, le→leb, leb→le, ltb}
 use lib.ListN.{length}
 use Rattle.rules.specs.Lists.{sum}
 use Rattle.rules.specs.Refusals.{test, firstRefusal}
-use Rattle.rules.specs.Verdicts.{tallies, FindingLists, findingLengths, FindingsListed}
+use Rattle.rules.specs.Verdicts.{tallies, FindingLists, findingLengths}
 use Rattle.rules.specs.Traces.{traceLimits, TraceLists, eventCount, traceTests, traceFindings, transientAnswer, transientAssessment, transientNumbers, TraceCallFrom}
 use Rattle.rules.specs.Recording.{TransientRecord, recordFalse, recordTests, checkRecording, addTallies, grown, RecordCall}
 use Rattle.rules.specs.declared.answers.Checked.{Checked}
@@ -18,7 +18,7 @@ use Rattle.rules.specs.declared.transient.TransientAnswer.the-variants as Answe
 use Rattle.rules.specs.declared.transient.TransientAssessment.{TransientAssessment}
 use Rattle.rules.proofs.Lists.{same-test, or-left, or-right}
 use Rattle.rules.proofs.FirstRefusal.{stop, more, within, flag-set, flag-clear}
-use Rattle.rules.proofs.TraceAcceptance.{RecordTrue, not-false→true, accepted→trace}
+use Rattle.rules.proofs.TraceAcceptance.{RecordTrue, not-false→true, accepted→trace, untouched}
 use Rattle.laws.proofs.TraceRoom.{findings-fit, tallies-sum}
 use Rattle.recording.specs.Held.{Addable}
 use Rattle.recording.proofs.Sums.{entry-small}
@@ -72,10 +72,7 @@ module _ (r : TransientRecord) (t : TraceLists) (old : FindingLists) where
   traced = firstRefusal (traceTests traceLimits t (r .findings + eventCount t) (findingLengths old))
 
   pub refused-record : {number place : ℕ} → Refused number place ≡ checked → RecordCall traceLimits r t old old (number ∷ place ∷ 0 ∷ 0 ∷ []) r
-  refused-record e = rw (← e) (record { numbered = refl; recorded = refl; listed = untouched })
-    where
-      untouched : FindingsListed (λ a b. a) (traceFindings t) old old
-      untouched = record { components-listed = refl; polarities-listed = refl; units-listed = refl; start-ticks-listed = refl; end-ticks-listed = refl; widths-listed = refl; steady-listed = refl; baselines-listed = refl; starts-listed = refl; ends-listed = refl; verdicts-listed = refl; rationales-listed = refl }
+  refused-record e = rw (← e) (record { numbered = refl; recorded = refl; listed = untouched (traceFindings t) old })
 
   module _ {b : Bool} (told : b ≡ recordFalse traceLimits r) where
     pub false-record : b ≡ true → Refused 15 0 ≡ checked

@@ -1,19 +1,22 @@
--- What an accepted trace call and an accepted recording satisfy, and that the lent lists are the fields of the events and contracts. Assumes nothing.
+-- What an accepted trace call and an accepted recording satisfy, what a refused one leaves, and that the lent lists are the fields of the events
+-- and contracts. Assumes nothing.
 use mathlib.Core.Bool.{not, _&&_, _||_}
 use mathlib.Core.List.{List, map, map-map, map-id, flatMap, List·Memᴰ, List·Memᴰ·head, List·Memᴰ·tail, Memᴰ·map, Memᴰ·of-map}
 use mathlib.Core.Path.{_≡_, refl, subst, _∙_}
 use Prim.Native.Nat.{ℕ, zero, suc, _+_, _-_, _*_, _≤_, _<_}
 use native.Mathlib.Omega.{arith}
 use lib.Dec.{T, T-not, not-T, eqb, ltb, leb, eqb→eq, nleb→lt, lt→ltb, leb→le}
-use lib.ListN.{length, getD}
+use lib.ListN.{length, getD, replicate}
 use Rattle.rules.specs.Lists.{indices, sum}
 use Rattle.rules.specs.Ordered.{Rises}
 use Rattle.rules.specs.Refusals.{Test, firstRefusal, lengthsDiffer, output}
 use Rattle.rules.specs.Pulses.{Event, EventLists, EventsAligned, eventAt, eventsOf}
-use Rattle.rules.specs.Verdicts.{Contract, ContractLists, ContractsAligned, contractAt, contractsOf}
-use Rattle.rules.specs.Traces.{TraceLimits, TraceLists, eventCount, contractCount, eventLengths, contractLengths, contractOutOfRange, notAboveBefore, eventTest, contractTests, traceTests, checkTrace}
+use Rattle.rules.specs.Verdicts.{Contract, ContractLists, ContractsAligned, contractAt, contractsOf, Finding, FindingLists, FindingsListed}
+use Rattle.rules.specs.Traces.{TraceLimits, TraceLists, eventCount, contractCount, eventLengths, contractLengths, contractOutOfRange, notAboveBefore, eventTest, contractTests, traceTests, checkTrace, traceFindings, AssessedBy}
 use Rattle.rules.specs.Recording.{TransientRecord, recordFalse, recordTests, checkRecording}
-use Rattle.rules.specs.declared.answers.Checked.the-variants.{Accepted}
+use Rattle.rules.specs.declared.answers.Checked.{Checked}
+use Rattle.rules.specs.declared.answers.Checked.the-variants.{Accepted, Refused}
+use Rattle.rules.specs.declared.transient.TransientAnswer.the-variants as Answer
 use Rattle.rules.proofs.Lists.{passes, or-none, and-left, and-right, and-both, eq-test, tests}
 use Rattle.rules.proofs.Indices.{made-length, column, indices-below, below-indices}
 use Rattle.rules.proofs.FirstRefusal.{at-most, all-same, same-all, NoneHold, within, none-nil, none-cons, none-append, none-map, none-flat, none-parts, none-each, none-holds, accepted-if}
@@ -249,3 +252,26 @@ contract-columns l a =
       smallest-column = column (λ c. c .smallest) (contractAt l) (length (l .components)) (l .smallest) 0 (a .smallest-length) (λ i. refl);
       largest-column = column (λ c. c .largest) (contractAt l) (length (l .components)) (l .largest) 0 (a .largest-length) (λ i. refl);
     }
+
+-- list 9 left as it was
+pub untouched : (fs : List Finding) (o : FindingLists) → FindingsListed (λ a b. a) fs o o
+untouched fs o =
+    record {
+      components-listed = refl;
+      polarities-listed = refl;
+      units-listed = refl;
+      start-ticks-listed = refl;
+      end-ticks-listed = refl;
+      widths-listed = refl;
+      steady-listed = refl;
+      baselines-listed = refl;
+      starts-listed = refl;
+      ends-listed = refl;
+      verdicts-listed = refl;
+      rationales-listed = refl;
+    }
+
+-- the answer of a call that is refused
+pub refused-assessed : {v : Checked} {start number place : ℕ} {t : TraceLists} (old : FindingLists) → v ≡ Refused number place
+    → AssessedBy v start t old old (record { answer = Answer.Refused number place; tallies = replicate 5 0 })
+refused-assessed {t = t} old e = rw e (record { assessed = refl; numbered = refl; listed = untouched (traceFindings t) old })

@@ -20,7 +20,7 @@ use Rattle.rules.specs.declared.transient.TransientAnswer.the-variants as Answe
 use Rattle.rules.specs.declared.transient.TransientAssessment.{TransientAssessment}
 use Rattle.rules.proofs.Ordering.{ordered-length, ordered-below}
 use Rattle.rules.proofs.Shortest.{short-any}
-use Rattle.rules.proofs.TraceAcceptance.{AcceptedTrace, accepted→trace}
+use Rattle.rules.proofs.TraceAcceptance.{AcceptedTrace, accepted→trace, refused-assessed}
 use Rattle.rules.proofs.Windows.{pulses-windows, places-inside, places-few}
 use Rattle.rules.proofs.Written.{written-front}
 use Rattle.order.specs.Sorted.{SortedPositions}
@@ -174,10 +174,7 @@ module _ (start unit : ℕ) (l : EventLists) (c : ContractLists) (old : FindingL
 
   pub refused-call : {v : Checked} {number place : ℕ} → v ≡ checked → v ≡ Refused number place
       → AssessedBy checked start t old old (record { answer = Answer.Refused number place; tallies = replicate 5 0 })
-  refused-call e q = rw (← e, q) (record { assessed = refl; numbered = refl; listed = untouched })
-    where
-      untouched : FindingsListed (λ a b. a) (traceFindings t) old old
-      untouched = record { components-listed = refl; polarities-listed = refl; units-listed = refl; start-ticks-listed = refl; end-ticks-listed = refl; widths-listed = refl; steady-listed = refl; baselines-listed = refl; starts-listed = refl; ends-listed = refl; verdicts-listed = refl; rationales-listed = refl }
+  refused-call e q = refused-assessed old (sym e ∙ q)
 
   module _ {v : Checked} (e : v ≡ checked) (q : v ≡ Accepted) where
     pub accepted-trace : AcceptedTrace traceLimits t (start + eventCount t) (findingLengths old)
