@@ -60,6 +60,15 @@ pub record-refused : (limits : TraceLimits) (r then : TransientRecord) (t : Trac
     → RecordCall limits r t old new numbers then → checkRecording limits r t (findingLengths old) ≡ Refused number place → (then ≡ r) × (new ≡ old)
 record-refused limits r then t old new numbers number place call e = unrecorded-by (checkRecording limits r t (findingLengths old)) call e
 
+changed-by : (c : Checked) {r then : TransientRecord} {t : TraceLists} {old new : FindingLists} {numbers : List ℕ} → RecordedBy c r t old new numbers then → (getD numbers 0 0 ≡ 0 → ⊥) → (then ≡ r) × (new ≡ old)
+changed-by Accepted b h = absurd (h (ap (λ l. getD l 0 0) (b .numbered)))
+changed-by (Refused m q) b h = (b .recorded, untouched (b .listed))
+
+-- where the first number is a refusal's, the record and every list are as they were
+pub record-unchanged : (limits : TraceLimits) (r then : TransientRecord) (t : TraceLists) (old new : FindingLists) (numbers : List ℕ)
+    → RecordCall limits r t old new numbers then → (getD numbers 0 0 ≡ 0 → ⊥) → (then ≡ r) × (new ≡ old)
+record-unchanged limits r then t old new numbers call h = changed-by (checkRecording limits r t (findingLengths old)) call h
+
 -- Records that calls made
 
 abbrev pub freshRecord : TransientRecord

@@ -1,1 +1,1 @@
-// Theorems about every accepted scene are in proofs/; there is no code here.
+// Theorems about accepted scenes, traces and records are in proofs/; there is no code here.

@@ -14,6 +14,9 @@ use rules::limits::MAX_TRACES;
 use rules::transient::TransientAnswer;
 use transient::trace::assess_from;
 
+// So many traces can have any number of findings of 64 bits: 4,096 times 2^52 is 2^64.
+const ENOUGH_TRACES: u64 = 4503599627370496;
+
 // Traces held, findings held, and a tally for each verdict by its number.
 #[repr(C)]
 pub struct TransientRecord {
@@ -59,13 +62,12 @@ fn sum_is(tallies: [u64; 5], total: u64) -> bool
     left == 0
 }
 
-// 15: the tallies don't sum to the findings held, or these are more than the traces held can have. From 2^52 traces on
-// no number of findings is.
+// 15: the tallies don't sum to the findings held, or these are more than the traces held can have.
 fn record_false(traces: u64, findings: u64, tallies: [u64; 5]) -> bool
     ensures { λ r. ⌜ r ≡ recordFalse traceLimits (record { traces = traces; findings = findings; tallies = tallies }) ⌝ }
 {
     if sum_is(tallies, findings) {
-        if 4503599627370496 <= traces {
+        if ENOUGH_TRACES <= traces {
             return false;
         }
         MAX_FINDINGS_EACH * traces < findings
@@ -213,7 +215,7 @@ pub fn recorded(
 }
 
 impl TransientRecord {
-    // The same on a record that is lent: it is taken apart, handed on by value, and put together again.
+    // The same on a record that is lent: it is taken apart and handed on by value, and what comes back is stored.
     pub fn record_trace(
         &mut self,
         unit: u8,

@@ -1,4 +1,4 @@
-// What the scene calls answer.
+// What the checks and the scene calls answer.
 
 // What the checks find: nothing to refuse, or the number of a refusal and its place.
 pub enum Checked {

@@ -14,7 +14,7 @@ use Rattle.rules.specs.Traces.{contractOutOfRange, notAboveBefore, eventTest, c
 use Rattle.rules.specs.declared.answers.Checked.{Checked}
 use Rattle.rules.specs.declared.answers.Checked.the-variants.{Accepted, Refused}
 use Rattle.rules.proofs.Lists.{same-test, and-right, and-both}
-use Rattle.verdicts.proofs.ContractSteps.{range}
+use Rattle.verdicts.specs.Given.{contractWith}
 use Rattle.rules.proofs.FirstRefusal.{stop, more, end, within, flag-set, flag-clear, rows-more, rows-stop}
 
 -- A row of one test each
@@ -56,7 +56,7 @@ held-against components i h =
 -- One contract more
 
 module _ (l : ContractLists) (i : ℕ) (before : Accepted ≡ firstRefusal (rows (contractTests l) i)) where
-  module _ (out : Bool) (ranged : out ≡ range (getD (l .powered) i 0) (getD (l .polarities) i 0) (getD (l .units) i 0) (getD (l .intents) i 0)) where
+  module _ (out : Bool) (ranged : out ≡ contractOutOfRange (contractWith (getD (l .intents) i 0) (getD (l .powered) i 0) (getD (l .polarities) i 0) (getD (l .units) i 0) 0 0)) where
     out-here : out ≡ contractOutOfRange (contractAt l i)
     unfolding contractOutOfRange contractAt
     out-here = ranged

@@ -127,9 +127,9 @@ rooms start n o h =
 -- All fields
 
 module _ (cs : List Contract) (unit : ℕ) (l : EventLists) (row places : List ℕ) (start : ℕ) where
-  field-of : (g : Finding → ℕ) (old : List ℕ) {new : List ℕ} → new ≡ writtenFrom start old (map (λ k. g (found cs unit l row places start k)) places)
-      → new ≡ writtenFrom start old (map g (map (found cs unit l row places start) places))
-  field-of g old e = e ∙ ap (writtenFrom start old) (sym (map-map g (found cs unit l row places start) places))
+  field-of : (g : Finding → ℕ) (old : List ℕ) {new : List ℕ} → new ≡ writtenFrom start old (map (λ k. g (found cs unit l row k)) places)
+      → new ≡ writtenFrom start old (map g (map (found cs unit l row) places))
+  field-of g old e = e ∙ ap (writtenFrom start old) (sym (map-map g (found cs unit l row) places))
 
   pub all-fields : (x0 x1 x2 x3 x4 x5 x6 x7 x8 x9 x10 x11 : List ℕ) {y0 y1 y2 y3 y4 y5 y6 y7 y8 y9 y10 y11 tallies′ : List ℕ} → PulsesListed unit l row places start x0 x1 x2 x3 x4 x5 y0 y1 y2 y3 y4 y5
       → EvidenceListed 0 l row places start x6 x7 x8 x9 y6 y7 y8 y9 → PulsesJudged cs unit l row places start x10 x11 y10 y11 tallies′
@@ -196,7 +196,7 @@ module _ (start unit : ℕ) (l : EventLists) (c : ContractLists) (old : FindingL
     })
       where
         wrote : ℕ → Finding
-        wrote = found (contractsOf c) unit l (take (length (l .ticks)) row) (take r places) start
+        wrote = found (contractsOf c) unit l (take (length (l .ticks)) row)
 
         same : map wrote (take r places) ≡ traceFindings t
         same = findings-here (contractsOf c) unit l (accepted-trace .events-aligned .components-length) sorted

@@ -21,11 +21,12 @@ pub record PulsesFound (l : EventLists) (row places : List ℕ) (r : ℕ) : Type
   pub found : take r places ≡ windowPlaces l row (length row)
   pub counted : r ≡ length (windowPlaces l row (length row))
 
--- places of the row, each with two more after it, and lists with room for an entry of each from a place on
+-- places of the row, each with two more after it
 pub record Windows (ticks components powered row places : List ℕ) : Type 0 where
   pub row-inside : EventRow ticks components powered row
   pub places-inside : (j : ℕ) → j < length places → getD places j 0 + 2 < length row
 
+-- a list with room for n entries from a place on
 abbrev pub Room : (start n : ℕ) → List ℕ → Type 0
 Room start n old = start + n ≤ length old
 
@@ -42,6 +43,7 @@ module _ (unit : ℕ) (l : EventLists) (row places : List ℕ) (start : ℕ) whe
     pub end-ticks-written : fieldWritten (λ p. p .endTick) endTicks endTicks′
     pub widths-written : fieldWritten (λ p. p .width) widths widths′
 
+  -- these fields are the same in either unit
   pub record EvidenceListed (steady baselines starts ends steady′ baselines′ starts′ ends′ : List ℕ) : Type 0 where
     pub steady-written : fieldWritten (λ p. cond (p .steady) 1 0) steady steady′
     pub baselines-written : fieldWritten (λ p. p .baselineEvent) baselines baselines′

@@ -37,7 +37,7 @@ fn as_count(b: bool) -> usize
 }
 
 // Writes the places of the row at which a pulse begins, in order, and answers how many there are; past them the list is
-// open. Each place is written, and counted only where a pulse begins: so no branch waits on the levels.
+// open, since each place is written, and counted only where a pulse begins.
 pub(crate) fn observe_pulses(
     ticks: &[u64],
     components: &[u64],

@@ -1,7 +1,6 @@
 // What a contract's values say: whether they are in range, and which intent they stand for.
 ghost use mathlib.Core.Path.{_≡_};
-ghost use mathlib.Core.Bool.{_&&_, _||_};
-ghost use lib.Dec.{eqb, ltb};
+ghost use Rattle.rules.specs.Traces.{contractOutOfRange};
 ghost use Rattle.rules.specs.Verdicts.{intentOf};
 ghost use Rattle.verdicts.specs.Given.{contractWith};
 use rules::transient::SignalIntent;
@@ -10,7 +9,7 @@ use tables::codes::unit_of;
 
 // Whether a value that a contract's intent uses is out of its range. The others are not looked at.
 pub fn out_of_range(intent: u8, powered: u8, polarity: u8, unit: u8) -> bool
-    ensures { λ r. ⌜ r ≡ (ltb 3 intent || ((eqb intent 1 && ltb 1 powered) || ((eqb intent 2 || eqb intent 3) && (ltb 1 polarity || ltb 1 unit)))) ⌝ }
+    ensures { λ r. ⌜ r ≡ contractOutOfRange (contractWith intent powered polarity unit 0 0) ⌝ }
 {
     if 3 < intent {
         return true;
@@ -27,7 +26,7 @@ pub fn out_of_range(intent: u8, powered: u8, polarity: u8, unit: u8) -> bool
     1 < unit
 }
 
-// The intent that a contract's values stand for. Those that it doesn't use are not looked at.
+// The intent that a contract's values stand for, that of 3 past the last. Values that it doesn't use are not looked at.
 pub fn intent_of(
     intent: u8,
     powered: u8,

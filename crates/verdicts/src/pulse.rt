@@ -1,15 +1,15 @@
 // What three events say: whether they make a pulse, and of which polarity and width.
 ghost use mathlib.Core.Path.{_≡_};
-ghost use mathlib.Core.Bool.{cond, not, _&&_};
+ghost use mathlib.Core.Bool.{cond};
 ghost use Prim.Native.Nat.{_-_};
-ghost use lib.Dec.{ltb};
 ghost use Rattle.rules.specs.Codes.{polarityCode};
-ghost use Rattle.rules.specs.Pulses.{isPowered, agree};
+ghost use Rattle.rules.specs.Pulses.{isPowered, isPulse};
+ghost use Rattle.verdicts.specs.Given.{eventWith};
 ghost use Rattle.rules.specs.declared.transient.PulsePolarity.the-variants.{High, Low};
 
 // Whether three levels and the ticks of the last two make a pulse.
 pub fn is_pulse(first: u8, second: u8, third: u8, start_tick: u64, end_tick: u64) -> bool
-    ensures { λ r. ⌜ r ≡ (agree (isPowered first) (isPowered third) && (not (agree (isPowered first) (isPowered second)) && ltb «start_tick» «end_tick»)) ⌝ }
+    ensures { λ r. ⌜ r ≡ isPulse (eventWith first 0) (eventWith second «start_tick») (eventWith third «end_tick») ⌝ }
 {
     let powered = 0 < first;
     if (0 < third) != powered {
