@@ -8,6 +8,7 @@ use generator::lists::SceneLists;
 use generator::rng::Rng;
 use generator::shapes::{SHAPES, Shape};
 
+use crate::case::Case;
 use crate::order::shuffle_connections;
 use crate::rooms;
 use crate::run::{run, run_orders};
@@ -31,16 +32,16 @@ pub fn round(tally: &mut Tally, seed: u64) -> Result<(), String> {
     beyond(tally, rng)?;
     for fault in every_fault() {
         for most in [8, 60] {
-            damaged(tally, rng, "one fault", most, &[fault])?;
+            run(tally, "one fault", &damaged(rng, most, &[fault]))?;
         }
     }
     for _ in 0..1000 {
         let faults = several_faults(rng);
-        damaged(tally, rng, "several faults", 12, &faults)?;
+        run(tally, "several faults", &damaged(rng, 12, &faults))?;
     }
     for _ in 0..20 {
         let faults = several_faults(rng);
-        damaged(tally, rng, "several faults, large", 512, &faults)?;
+        run(tally, "several faults, large", &damaged(rng, 512, &faults))?;
     }
     Ok(())
 }
@@ -70,7 +71,7 @@ fn limits(tally: &mut Tally, rng: &mut Rng) -> Result<(), String> {
         for m in CONNECTION_COUNTS {
             let most = rng.pick(&[60, 500]);
             let sizes = [Fault::Components(n), Fault::Connections(m)];
-            damaged(tally, rng, "sizes at the limits", most, &sizes)?;
+            run(tally, "sizes at the limits", &damaged(rng, most, &sizes))?;
         }
     }
     Ok(())
@@ -85,27 +86,19 @@ fn beyond(tally: &mut Tally, rng: &mut Rng) -> Result<(), String> {
         &[connections],
         &[components, connections],
     ] {
-        damaged(tally, rng, "sizes far beyond", 60, sizes)?;
+        run(tally, "sizes far beyond", &damaged(rng, 60, sizes))?;
     }
     Ok(())
 }
 
 /// A scene of at most so many components with faults; where there are several, its room may be
 /// short too.
-fn damaged(
-    tally: &mut Tally,
-    rng: &mut Rng,
-    family: &'static str,
-    most: usize,
-    faults: &[Fault],
-) -> Result<(), String> {
+fn damaged(rng: &mut Rng, most: usize, faults: &[Fault]) -> Case {
     let n = rng.between(1, most);
     let mut lists = any_scene(rng, n);
     damage(rng, &mut lists, faults);
-    let case = match faults.len() {
+    match faults.len() {
         1 => rooms::enough(rng, lists),
         _ => rooms::doubtful(rng, lists),
-    };
-    run(tally, family, &case)?;
-    Ok(())
+    }
 }

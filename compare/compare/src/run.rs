@@ -49,10 +49,14 @@ pub fn run_build(tally: &mut Tally, build: &Build, case: &Case) -> Result<(), St
     let agreed = run(tally, "builds of document 01", case)?;
     let expected = agreed.expected.as_ref();
     let answer = expected.map(|expected| brief(&case.lists.ids, &expected.assessed));
-    if answer.as_deref() == Some(build.answer) {
+    as_known(answer, build.answer, case)
+}
+
+/// The answer that all sides have, if any, is the known one.
+pub fn as_known(answer: Option<String>, known: &str, case: &impl Display) -> Result<(), String> {
+    if answer.as_deref() == Some(known) {
         return Ok(());
     }
-    let known = build.answer;
     Err(format!(
         "all sides have {answer:?}, but document 01 has {known:?}\n{case}"
     ))
@@ -64,14 +68,25 @@ pub fn run_orders(
     families: [&'static str; 2],
     cases: [&Case; 2],
 ) -> Result<(), String> {
-    let one = run(tally, families[0], cases[0])?;
-    let other = run(tally, families[1], cases[1])?;
+    let one = run(tally, families[0], cases[0])?.expected;
+    let other = run(tally, families[1], cases[1])?.expected;
+    agreeing(families[0], cases, [one, other], |one, other| {
+        same_answers(&one.assessed, &other.assessed)
+    })
+}
+
+/// The answers of two cases of any sort are the same, where both have one.
+pub fn agreeing<C: Display, A>(
+    family: &str,
+    [case, other_case]: [&C; 2],
+    answers: [Option<A>; 2],
+    same: impl FnOnce(&A, &A) -> Result<(), Difference>,
+) -> Result<(), String> {
     // these are the entries that the library has written too
-    let (Some(one), Some(other)) = (one.expected, other.expected) else {
+    let [Some(one), Some(other)] = &answers else {
         return Ok(());
     };
-    same_answers(&one.assessed, &other.assessed).map_err(|Difference { what, told }| {
-        let (family, [one, other]) = (families[0], cases);
-        format!("in the family '{family}', {what}: {told}\n{one}\n\nand\n{other}")
+    same(one, other).map_err(|Difference { what, told }| {
+        format!("in the family '{family}', {what}: {told}\n{case}\n\nand\n{other_case}")
     })
 }

@@ -64,6 +64,29 @@ pub fn parts(rows: usize) -> impl Iterator<Item = (usize, usize)> {
     })
 }
 
+/// The lists after each of these changes that changes anything.
+pub fn changed<L: Clone + PartialEq, const N: usize>(
+    lists: &L,
+    changes: [fn(&mut L); N],
+) -> impl Iterator<Item = L> {
+    let changed = changes.into_iter().map(|change| {
+        let mut other = lists.clone();
+        change(&mut other);
+        other
+    });
+    changed.filter(move |other| other != lists)
+}
+
+/// Numbers from 1 on, in the same order.
+pub fn small_numbers<const N: usize>(lists: [&mut Vec<u64>; N]) {
+    let mut known: Vec<u64> = lists.iter().flat_map(|list| list.iter().copied()).collect();
+    known.sort();
+    known.dedup();
+    for number in lists.into_iter().flatten() {
+        *number = 1 + known.binary_search(number).expect("a known number") as u64;
+    }
+}
+
 fn without_connections(lists: &SceneLists, from: usize, to: usize) -> SceneLists {
     let mut left = lists.clone();
     left.sources.drain(from..to);
@@ -100,18 +123,12 @@ fn plainer(case: &Case) -> impl Iterator<Item = Case> {
         unlocked,
         one_transfer,
     ];
-    let scenes = numbers.map(|change| {
-        let mut lists = case.lists.clone();
-        change(&mut lists);
-        case.with(lists)
-    });
-    let changed = |other: &Case| other.lists != case.lists;
-    let scenes: Vec<_> = scenes.into_iter().filter(changed).collect();
+    let scenes = changed(&case.lists, numbers).map(|lists| case.with(lists));
     let mut exact = case.clone();
     exact.describe = exact_lengths(case, DescribeLists::LISTS, &case.describe);
     exact.assess = exact_lengths(case, AssessLists::LISTS, &case.assess);
     let shorter = exact.describe != case.describe || exact.assess != case.assess;
-    scenes.into_iter().chain(shorter.then_some(exact))
+    scenes.chain(shorter.then_some(exact))
 }
 
 /// No list is longer than it needs to be.
@@ -122,16 +139,8 @@ fn exact_lengths(case: &Case, lists: &[usize], lengths: &[usize]) -> Vec<usize> 
         .collect()
 }
 
-/// Ids from 1 on, in the same order.
 fn small_ids(lists: &mut SceneLists) {
-    let mut known = [&lists.ids[..], &lists.sources[..], &lists.sinks[..]].concat();
-    known.sort();
-    known.dedup();
-    for list in [&mut lists.ids, &mut lists.sources, &mut lists.sinks] {
-        for id in list {
-            *id = 1 + known.binary_search(id).expect("a known id") as u64;
-        }
-    }
+    small_numbers([&mut lists.ids, &mut lists.sources, &mut lists.sinks]);
 }
 
 fn no_positions(lists: &mut SceneLists) {

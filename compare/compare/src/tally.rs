@@ -18,6 +18,19 @@ struct Counts {
     with_unequal: usize,
 }
 
+/// The counts of each family, in the order in which the families came.
+pub type Families<C> = Vec<(&'static str, C)>;
+
+/// Those of one family; a new one comes last.
+pub fn counts_of<'a, C: Default>(families: &'a mut Families<C>, family: &'static str) -> &'a mut C {
+    let known = families.iter().position(|(name, _)| *name == family);
+    let at = known.unwrap_or_else(|| {
+        families.push((family, C::default()));
+        families.len() - 1
+    });
+    &mut families[at].1
+}
+
 /// Of one call: how often it refused by each number, and where.
 #[derive(Default)]
 pub struct Refusals {
@@ -61,8 +74,7 @@ const CALLS: [&str; 4] = ["check", "feedback", "describe", "assess"];
 
 #[derive(Default)]
 pub struct Tally {
-    /// In the order in which the families came.
-    families: Vec<(&'static str, Counts)>,
+    families: Families<Counts>,
     refusals: [Refusals; 4],
     shown: BTreeMap<&'static str, usize>,
 }
@@ -78,7 +90,7 @@ impl Tally {
         for (refusals, refusal) in self.refusals.iter_mut().zip(calls) {
             refusals.add(refusal);
         }
-        let counts = self.counts(family);
+        let counts = counts_of(&mut self.families, family);
         counts.cases += 1;
         if let (None, Some(expected)) = (agreed.assess, &agreed.expected) {
             let kinds = &expected.assessed.entries.reason_kinds;
@@ -89,15 +101,6 @@ impl Tally {
                 *self.shown.entry(name).or_default() += 1;
             }
         }
-    }
-
-    fn counts(&mut self, family: &'static str) -> &mut Counts {
-        let known = self.families.iter().position(|(name, _)| *name == family);
-        let at = known.unwrap_or_else(|| {
-            self.families.push((family, Counts::default()));
-            self.families.len() - 1
-        });
-        &mut self.families[at].1
     }
 
     /// What a run must have reached and has not; a comparison of nothing proves nothing.

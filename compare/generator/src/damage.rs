@@ -79,6 +79,16 @@ pub fn several_faults(rng: &mut Rng) -> Vec<Fault> {
 
 /// Makes the faults, many of them in the same component or connection.
 pub fn damage(rng: &mut Rng, lists: &mut SceneLists, faults: &[Fault]) {
+    make_all(rng, lists, faults, make);
+}
+
+/// Makes faults of scenes or of traces, in their order, with one spot for all of them.
+pub fn make_all<L, F: Copy + Ord>(
+    rng: &mut Rng,
+    lists: &mut L,
+    faults: &[F],
+    make: fn(&mut Rng, &mut L, F, usize),
+) {
     let mut faults = faults.to_vec();
     faults.sort();
     let spot = rng.word() as usize;
@@ -105,7 +115,7 @@ fn make(rng: &mut Rng, lists: &mut SceneLists, fault: Fault, spot: usize) {
 }
 
 /// The common spot or any other index; none of an empty list.
-fn index(rng: &mut Rng, length: usize, spot: usize) -> Option<usize> {
+pub fn index(rng: &mut Rng, length: usize, spot: usize) -> Option<usize> {
     if length == 0 {
         return None;
     }
@@ -116,7 +126,7 @@ fn index(rng: &mut Rng, length: usize, spot: usize) -> Option<usize> {
     })
 }
 
-fn set<T>(rng: &mut Rng, list: &mut [T], spot: usize, value: T) {
+pub fn set<T>(rng: &mut Rng, list: &mut [T], spot: usize, value: T) {
     if let Some(i) = index(rng, list.len(), spot) {
         list[i] = value;
     }

@@ -8,6 +8,7 @@ use generator::trace::faults::{
 use generator::trace::lists::TraceLists;
 use generator::trace::{contracts, record};
 
+use super::case::TraceCase;
 use super::order::interleave;
 use super::recording::Recording;
 use super::rooms;
@@ -35,12 +36,12 @@ pub fn round(tally: &mut TraceTally, seed: u64) -> Result<(), String> {
     sizes(tally, rng)?;
     for fault in every_fault() {
         for most in [4, 40] {
-            damaged(tally, rng, "one fault in a trace", most, &[fault])?;
+            run(tally, "one fault in a trace", &damaged(rng, most, &[fault]))?;
         }
     }
     for _ in 0..600 {
         let faults = several_faults(rng);
-        damaged(tally, rng, "several faults", 12, &faults)?;
+        run(tally, "several faults", &damaged(rng, 12, &faults))?;
     }
     records(tally, rng)?;
     recordings(tally, rng)
@@ -77,7 +78,7 @@ fn sizes(tally: &mut TraceTally, rng: &mut Rng) -> Result<(), String> {
     for events in EVENT_COUNTS {
         for contracts in CONTRACT_COUNTS {
             let sizes = [Fault::Events(events), Fault::Contracts(contracts)];
-            damaged(tally, rng, "traces at the limits", 600, &sizes)?;
+            run(tally, "traces at the limits", &damaged(rng, 600, &sizes))?;
         }
     }
     let (events, contracts) = (
@@ -85,32 +86,24 @@ fn sizes(tally: &mut TraceTally, rng: &mut Rng) -> Result<(), String> {
         Fault::Contracts(CONTRACTS_BEYOND),
     );
     for sizes in [&[events][..], &[contracts], &[events, contracts]] {
-        damaged(tally, rng, "traces far beyond", 60, sizes)?;
+        run(tally, "traces far beyond", &damaged(rng, 60, sizes))?;
     }
     Ok(())
 }
 
 /// A trace of at most so many events with faults; where there are several, its room may be short
 /// too, and its record full or false.
-fn damaged(
-    tally: &mut TraceTally,
-    rng: &mut Rng,
-    family: &'static str,
-    most: usize,
-    faults: &[Fault],
-) -> Result<(), String> {
+fn damaged(rng: &mut Rng, most: usize, faults: &[Fault]) -> TraceCase {
     let n = rng.between(1, most);
     let mut lists = any_trace(rng, n);
     if lists.contract_components.len() < 2 {
         contracts::resize(rng, &mut lists, 3);
     }
     damage(rng, &mut lists, faults);
-    let case = match faults.len() {
+    match faults.len() {
         1 => rooms::enough(rng, lists),
         _ => rooms::doubtful(rng, lists),
-    };
-    run(tally, family, &case)?;
-    Ok(())
+    }
 }
 
 /// Records of every kind, and one that holds up to as many findings as it can.

@@ -5,7 +5,7 @@ use generator::trace::record::TransientRecord;
 use super::case::TraceCase;
 use super::list9::Lengths;
 use super::recording::Recording;
-use crate::shrink::{Shrink, parts, rows};
+use crate::shrink::{Shrink, changed, parts, rows, small_numbers};
 
 impl Shrink for TraceCase {
     fn smaller(&self) -> impl Iterator<Item = Self> {
@@ -39,7 +39,8 @@ fn smaller_lists(lists: &TraceLists) -> impl Iterator<Item = TraceLists> {
     let fewer_events = parts(events).map(|(from, to)| without_events(lists, from, to));
     let fewer_contracts = parts(contracts).map(|(from, to)| without_contracts(lists, from, to));
     let fewer = fewer_events.chain(fewer_contracts);
-    fewer.chain(plainer_lists(lists))
+    let plain = [small_components, small_ticks, first_unit, plain_widths];
+    fewer.chain(changed(lists, plain))
 }
 
 fn without_events(lists: &TraceLists, from: usize, to: usize) -> TraceLists {
@@ -56,36 +57,12 @@ fn without_contracts(lists: &TraceLists, from: usize, to: usize) -> TraceLists {
     lists.with_contracts(left.map(|(_, contract)| contract))
 }
 
-fn plainer_lists(lists: &TraceLists) -> impl Iterator<Item = TraceLists> {
-    let changes = [small_components, small_ticks, first_unit, plain_widths];
-    let changed = changes.map(|change| {
-        let mut plain = lists.clone();
-        change(&mut plain);
-        plain
-    });
-    changed.into_iter().filter(move |plain| plain != lists)
-}
-
-/// Components from 1 on, in the same order.
 fn small_components(lists: &mut TraceLists) {
-    let mut known = [&lists.components[..], &lists.contract_components[..]].concat();
-    known.sort();
-    known.dedup();
-    for list in [&mut lists.components, &mut lists.contract_components] {
-        for id in list {
-            *id = 1 + known.binary_search(id).expect("a known component") as u64;
-        }
-    }
+    small_numbers([&mut lists.components, &mut lists.contract_components]);
 }
 
-/// Ticks from 1 on, in the same order.
 fn small_ticks(lists: &mut TraceLists) {
-    let mut known = lists.ticks.clone();
-    known.sort();
-    known.dedup();
-    for tick in &mut lists.ticks {
-        *tick = 1 + known.binary_search(tick).expect("a known tick") as u64;
-    }
+    small_numbers([&mut lists.ticks]);
 }
 
 fn first_unit(lists: &mut TraceLists) {

@@ -8,7 +8,7 @@ use plain::trace::Refusal;
 use super::reached::{BETWEEN, FULL, shown, wanted};
 use super::recording::Recorded;
 use super::sides::Agreed;
-use crate::tally::{Refusals, listed};
+use crate::tally::{Families, Refusals, counts_of, listed};
 
 /// Of one family. A recording counts as many cases as it has traces.
 #[derive(Default)]
@@ -20,8 +20,7 @@ struct Counts {
 
 #[derive(Default)]
 pub struct TraceTally {
-    /// In the order in which the families came.
-    families: Vec<(&'static str, Counts)>,
+    families: Families<Counts>,
     assess: Refusals,
     record: Refusals,
     shown: BTreeMap<&'static str, usize>,
@@ -31,7 +30,7 @@ impl TraceTally {
     pub fn add(&mut self, family: &'static str, lists: &TraceLists, agreed: &Agreed) {
         self.assess.add(agreed.assess);
         self.record.add(agreed.record);
-        let counts = self.counts(family);
+        let counts = counts_of(&mut self.families, family);
         counts.cases += 1;
         if let (None, Some(answer)) = (agreed.assess, &agreed.answer) {
             counts.accepted += 1;
@@ -47,7 +46,7 @@ impl TraceTally {
         for refusal in refusals {
             self.record.add(*refusal);
         }
-        let counts = self.counts(family);
+        let counts = counts_of(&mut self.families, family);
         counts.cases += refusals.len();
         counts.accepted += recorded.held.traces as usize;
         counts.findings += recorded.held.findings;
@@ -61,15 +60,6 @@ impl TraceTally {
 
     fn show(&mut self, name: &'static str) {
         *self.shown.entry(name).or_default() += 1;
-    }
-
-    fn counts(&mut self, family: &'static str) -> &mut Counts {
-        let known = self.families.iter().position(|(name, _)| *name == family);
-        let at = known.unwrap_or_else(|| {
-            self.families.push((family, Counts::default()));
-            self.families.len() - 1
-        });
-        &mut self.families[at].1
     }
 
     /// What a run must have reached and has not; a comparison of nothing proves nothing.

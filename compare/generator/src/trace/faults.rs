@@ -1,6 +1,7 @@
 //! Faults for good traces. Several may be made in one trace, so that the order of refusals shows.
 use super::contracts;
 use super::lists::{EVENT_LISTS, INTENTIONAL_PULSE, LISTS, STABLE, TraceLists};
+use crate::damage::{index, make_all, set};
 use crate::rng::Rng;
 
 /// In the order in which they are made: sizes first, since they add good rows, and lengths of
@@ -77,12 +78,7 @@ pub fn several_faults(rng: &mut Rng) -> Vec<Fault> {
 
 /// Makes the faults, many of them in the same event or contract.
 pub fn damage(rng: &mut Rng, lists: &mut TraceLists, faults: &[Fault]) {
-    let mut faults = faults.to_vec();
-    faults.sort();
-    let spot = rng.word() as usize;
-    for fault in faults {
-        make(rng, lists, fault, spot);
-    }
+    make_all(rng, lists, faults, make);
 }
 
 fn make(rng: &mut Rng, lists: &mut TraceLists, fault: Fault, spot: usize) {
@@ -91,11 +87,7 @@ fn make(rng: &mut Rng, lists: &mut TraceLists, fault: Fault, spot: usize) {
         (Fault::Events(n), _) => resize_events(rng, lists, n),
         (Fault::Contracts(n), _) => contracts::resize(rng, lists, n),
         (Fault::Unit(unit), _) => lists.unit = unit,
-        (Fault::Powered(powered), _) => {
-            if let Some(i) = index(rng, lists.powered.len(), spot) {
-                lists.powered[i] = powered;
-            }
-        }
+        (Fault::Powered(powered), _) => set(rng, &mut lists.powered, spot, powered),
         (Fault::Short(list), _) => lists.resize_list(list, lists.lengths()[list].saturating_sub(1)),
         (Fault::Long(list), _) => lists.resize_list(list, lists.lengths()[list] + 1),
         (_, Some(i)) => damage_contract(rng, lists, fault, i),
@@ -128,18 +120,6 @@ fn damage_contract(rng: &mut Rng, lists: &mut TraceLists, fault: Fault, i: usize
         Fault::LowestComponent => components[later] = 0,
         _ => {}
     }
-}
-
-/// The common spot or any other index; none of an empty list.
-fn index(rng: &mut Rng, length: usize, spot: usize) -> Option<usize> {
-    if length == 0 {
-        return None;
-    }
-    Some(if rng.chance(1, 2) {
-        spot % length
-    } else {
-        rng.below(length)
-    })
 }
 
 /// Leaves out events from the end, or adds good ones of the components that the trace names.
