@@ -21,6 +21,10 @@ pub mod CallRoom
 pub mod TraceRoom
 pub mod Room
 pub mod PlainSums
+-- the report: that a scene read is checked as the call checks it, and that no report is cut
+pub mod ReadScenes
+pub mod ReportRoom
+pub mod ReportLines
 -- what these rest on
 pub mod Order
 pub mod Chains

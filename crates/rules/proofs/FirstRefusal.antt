@@ -1,6 +1,6 @@
 -- The first test that holds decides, over any list of tests. Assumes nothing.
 use mathlib.Core.Bool.{Bool, true, false, not, cond}
-use mathlib.Core.List.{List, [], _∷_, _++_, map, flatMap, append-assoc, List·Memᴰ, List·Memᴰ·head, List·Memᴰ·tail, List·Memᴰ·not-nil, List·Memᴰ·cases-cons, List·Memᴰ·append-cases, Memᴰ·append-left, Memᴰ·append-right, Memᴰ·of-map}
+use mathlib.Core.List.{List, [], _∷_, _++_, map, flatMap, List·Memᴰ, List·Memᴰ·head, List·Memᴰ·tail, List·Memᴰ·not-nil, List·Memᴰ·cases-cons, List·Memᴰ·append-cases, Memᴰ·append-left, Memᴰ·append-right, Memᴰ·of-map}
 use mathlib.Core.Path.{_≡_, refl, sym, ap, subst, _∙_}
 use mathlib.Core.Logic.{_⊎_, inl, inr, ⊎-elim}
 use Prim.Native.Nat.{ℕ, suc, _-_, _≤_, _<_}
@@ -10,7 +10,7 @@ use Rattle.rules.specs.Lists.{any, from, indices}
 use Rattle.rules.specs.Refusals.{Test, test, firstRefusal, lengthsDiffer, rows}
 use Rattle.rules.specs.declared.answers.Checked.{Checked}
 use Rattle.rules.specs.declared.answers.Checked.the-variants.{Accepted, Refused}
-use Rattle.rules.proofs.Lists.{tests, passes, or-none, eq-test, flat-in, flat-out}
+use Rattle.rules.proofs.Lists.{tests, passes, or-none, eq-test, flat-in, flat-out, flat-append}
 use Rattle.rules.proofs.Indices.{from-next, from-end, indices-split}
 
 -- no test of the list holds
@@ -90,11 +90,6 @@ skip a b e q = rw (first-append a b, ← e) q
 
 pub stay : (a b : List Test) {n p : ℕ} → Refused n p ≡ firstRefusal a → Refused n p ≡ firstRefusal (a ++ b)
 stay a b e = rw (first-append a b, ← e)
-
-flat-append : {A B : Type 0} (f : A → List B) (a b : List A) → flatMap f (a ++ b) ≡ flatMap f a ++ flatMap f b
-unfolding flatMap
-flat-append f [] b = refl
-flat-append f (x ∷ a) b = ap (λ l. f x ++ l) (flat-append f a b) ∙ sym (append-assoc (f x) (flatMap f a) (flatMap f b))
 
 -- Rows of tests by index: those of the rows before i accept, and row i accepts or refuses
 module _ (tests-at : ℕ → List Test) where

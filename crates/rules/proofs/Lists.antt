@@ -1,6 +1,6 @@
 -- Tests and membership. Assumes nothing.
 use mathlib.Core.Bool.{Bool, true, false, cond, _&&_, _||_, not}
-use mathlib.Core.List.{List, [], _∷_, _++_, map, flatMap, map-append, List·Memᴰ, List·Memᴰ·head, List·Memᴰ·tail, List·Memᴰ·not-nil, List·Memᴰ·cases-cons, List·Memᴰ·append-cases, Memᴰ·append-left, Memᴰ·append-right}
+use mathlib.Core.List.{List, [], _∷_, _++_, map, flatMap, map-append, append-assoc, List·Memᴰ, List·Memᴰ·head, List·Memᴰ·tail, List·Memᴰ·not-nil, List·Memᴰ·cases-cons, List·Memᴰ·append-cases, Memᴰ·append-left, Memᴰ·append-right}
 use mathlib.Core.Path.{_≡_, refl, sym, ap, ap₂, subst, _∙_}
 use mathlib.Core.Logic.{_⊎_, inl, inr, ⊎-elim}
 use Prim.Native.Nat.{ℕ}
@@ -108,6 +108,11 @@ module _ {A B : Type 0} (f : A → List B) where
       go : (List·Memᴰ y (flatMap f l) → (x : A) × List·Memᴰ x l × List·Memᴰ y (f x)) → List·Memᴰ y (f z) ⊎ List·Memᴰ y (flatMap f l) → (x : A) × List·Memᴰ x (z ∷ l) × List·Memᴰ y (f x)
       go below (inl k) = (z, List·Memᴰ·head refl, k)
       go below (inr k) = let r = below k in (r .0, List·Memᴰ·tail (r .1), r .2)
+
+  pub flat-append : (a b : List A) → flatMap f (a ++ b) ≡ flatMap f a ++ flatMap f b
+  unfolding flatMap
+  flat-append [] b = refl
+  flat-append (x ∷ a) b = ap (λ l. f x ++ l) (flat-append a b) ∙ sym (append-assoc (f x) (flatMap f a) (flatMap f b))
 
 -- tests that agree on the entries of a list
 module _ {A : Type 0} (f g : A → Bool) where

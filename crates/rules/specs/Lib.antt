@@ -1,5 +1,6 @@
 -- The meanings, in reading order. Words, delays, kinds and numbers:
 pub mod Lists
+pub mod Bytes
 pub mod Ordered
 pub mod Delay
 pub mod Kinds
@@ -23,3 +24,6 @@ pub mod Windows
 pub mod Verdicts
 pub mod Traces
 pub mod Recording
+-- the report program: the text of a scene, and what is printed:
+pub mod Text
+pub mod Report

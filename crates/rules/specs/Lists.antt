@@ -1,5 +1,5 @@
 -- Words about lists that the rules are written with. Assumes nothing: these are definitions.
-use mathlib.Core.Bool.{Bool, true, false, not, cond, _||_}
+use mathlib.Core.Bool.{Bool, true, false, not, cond, _&&_, _||_}
 use mathlib.Core.List.{List, [], _∷_, _++_, List·Memᴰ}
 use Prim.Native.Nat.{ℕ, zero, suc, _+_}
 use lib.Dec.{leb, eqb}
@@ -15,6 +15,11 @@ module _ {A : Type 0} where
   unfoldable pub any : (A → Bool) → List A → Bool
   any f [] = false
   any f (x ∷ xs) = let r = any f xs in f x || r
+
+  -- every entry passes the test
+  unfoldable pub every : (A → Bool) → List A → Bool
+  every f [] = true
+  every f (x ∷ xs) = let r = every f xs in f x && r
 
   -- the entries that pass the test, in order
   unfoldable pub keep : (A → Bool) → List A → List A
