@@ -55,7 +55,7 @@ fn all(
 
 /// A lever and 511 repeaters of the largest delay in a row, left open, with a shortcut from the
 /// lever to the end, and closed to a ring: the largest sums and the deepest visits.
-fn longest_chains() -> [SceneLists; 3] {
+pub fn longest_chains() -> [SceneLists; 3] {
     let mut open = SceneLists::default();
     for id in 0..512 {
         let kind = if id == 0 { LEVER } else { REPEATER };

@@ -46,12 +46,12 @@ pub fn round(tally: &mut Tally, seed: u64) -> Result<(), String> {
     Ok(())
 }
 
-fn any_scene(rng: &mut Rng, n: usize) -> SceneLists {
+pub fn any_scene(rng: &mut Rng, n: usize) -> SceneLists {
     let shape = &SHAPES[rng.below(SHAPES.len())];
     scene(rng, shape, n)
 }
 
-fn scene(rng: &mut Rng, shape: &Shape, n: usize) -> SceneLists {
+pub fn scene(rng: &mut Rng, shape: &Shape, n: usize) -> SceneLists {
     let sketch = shape.1(rng, n);
     filled(rng, &sketch)
 }
