@@ -1,26 +1,24 @@
--- A text put after another, rows put one after the other, and the digits of a number. Assumes nothing.
-use mathlib.Core.Bool.{Bool, true, false, cond}
-use mathlib.Core.List.{List, [], _∷_, _++_, map, flatMap, append-nil, map-id}
+-- A text put after another, and rows put one after the other. Assumes nothing.
+use mathlib.Core.List.{List, [], _∷_, _++_, flatMap, append-nil, map-id}
 use mathlib.Core.Path.{_≡_, refl, sym, ap, ap₂, _∙_}
-use Prim.Native.Nat.{ℕ, zero, suc, _+_, _-_, _/_, _%_, _≤_, _<_}
+use Prim.Native.Nat.{ℕ, zero, suc, _+_, _-_, _≤_, _<_}
 use Prim.Native.Char.{code}
 use native.Mathlib.Omega.{arith}
-use lib.Dec.{ltb}
 use lib.ListN.{length, getD, take, drop, set, length-append, length-drop}
 use lib.Seq.{length-take-le}
-use borrow.Author.Tests.{ltb-false, lt-ltb, le-ltb, ne-eqb}
+use borrow.Author.Tests.{ne-eqb}
 use Rattle.rules.specs.Lists.{from, indices, writtenFrom}
-use Rattle.rules.specs.Bytes.{digit, digitsUpTo, decimal}
+use Rattle.rules.specs.Bytes.{decimal}
 use Rattle.rules.specs.Report.{idsText}
-use Rattle.rules.proofs.Indices.{from-length, from-at, indices-more, indices-split, by-index}
-use Rattle.rules.proofs.Written.{from-none, from-more, from-twice}
+use Rattle.rules.proofs.Indices.{indices-more, indices-split}
+use Rattle.rules.proofs.Written.{written-front, from-none, from-more, from-twice}
 use Rattle.rules.proofs.Made.{Made, made-all}
 use Rattle.projection.proofs.Rows.{flat-append, flat-more}
 use Rattle.text.specs.ReportLists.{Room, Put, rows, idRow}
 
 -- One text after another
 
-put-none : (at : ℕ) (old : List ℕ) → at ≤ length old → Put [] at old old at
+pub put-none : (at : ℕ) (old : List ℕ) → at ≤ length old → Put [] at old old at
 put-none at old h = record { room = record { fits = omega arith }; content = sym (from-none old at); after = omega arith }
 
 -- room for the first of two texts
@@ -52,6 +50,10 @@ module _ {a : List ℕ} {at m : ℕ} {old mid : List ℕ} (p : Put a at old mid 
     content = rw (p .content, p .after) (from-more old a at x (omega (arith, p .after)));
     after = omega (arith, p .after, length-append a (x ∷ []));
   }
+
+-- what was put from the front on stands there
+pub put-front : {text old new : List ℕ} {r : ℕ} → Put text 0 old new r → take r new ≡ text
+put-front {text} {old} {r} p = rw (p .content) (written-front old text r (omega (arith, p .after)))
 
 -- a text that was written byte by byte
 pub put-made : (text old new : List ℕ) (at i : ℕ) → Room text at old → i ≡ length text → Made (λ j. getD text j 0) at old new i → Put text at old new (at + i)
@@ -114,43 +116,3 @@ ids-rows (v ∷ vs) =
     ids-commas v vs
     ∙ ap (λ l. decimal v ++ l) (sym (rows-shift (idRow (v ∷ vs)) 0 (length vs)
     ∙ rows-are (λ k. idRow (v ∷ vs) (suc k)) afterComma vs 0 (λ k h. rw (ne-eqb (suc k) 0 (λ e. omega arith)))))
-
--- Digits
-
-module _ {A : Type 0} (x y z : A) where
-  other-same : (b : Bool) → (b ≡ false → y ≡ z) → cond b x y ≡ cond b x z
-  other-same true h = refl
-  other-same false h = h refl
-
--- as many digits as are asked for, where that is enough
-digits-enough : (k j n : ℕ) → n < k → n < j → digitsUpTo k n ≡ digitsUpTo j n
-unfolding digitsUpTo
-digits-enough zero j n h i = absurd (omega arith)
-digits-enough (suc k) zero n h i = absurd (omega arith)
-digits-enough (suc k) (suc j) n h i =
-    other-same _ _ _ (ltb n 10) (λ e. let many = ltb-false n 10 e in ap (λ r. r ++ (digit (n % 10) ∷ [])) (digits-enough k j (n / 10) (omega arith) (omega arith)))
-
-pub decimal-one : (n : ℕ) → n < 10 → decimal n ≡ digit n ∷ []
-unfolding decimal digitsUpTo
-decimal-one n h = rw (lt-ltb n 10 h)
-
-pub decimal-more : (n : ℕ) → 10 ≤ n → decimal n ≡ decimal (n / 10) ++ (digit (n % 10) ∷ [])
-unfolding decimal digitsUpTo
-decimal-more n h = rw (le-ltb n 10 h) (ap (λ r. r ++ (digit (n % 10) ∷ [])) (digits-enough n (suc (n / 10)) (n / 10) (omega arith) (omega arith)))
-
--- a number of one digit, and one of more
-module _ {n at : ℕ} {old : List ℕ} (room : Room (decimal n) at old) where
-  pub one-room : n < 10 → at < length old
-  one-room h = omega (arith, room .fits, ap length (decimal-one n h))
-
-  pub one-put : n < 10 → Put (decimal n) at old (set old at (48 + n)) (at + 1)
-  one-put h = rw (decimal-one n h) (put-byte (put-none at old (omega (arith, room .fits))) (digit n) (one-room h))
-
-  pub tenth-room : 10 ≤ n → Room (decimal (n / 10)) at old
-  tenth-room h = room-first (decimal (n / 10)) (digit (n % 10) ∷ []) (rw (decimal-more n h) at room)
-
-  pub last-room : 10 ≤ n → {mid : List ℕ} {m : ℕ} → Put (decimal (n / 10)) at old mid m → m < length old
-  last-room h p = omega (arith, room .fits, p .after, ap length (decimal-more n h), length-append (decimal (n / 10)) (digit (n % 10) ∷ []))
-
-  pub more-put : 10 ≤ n → {mid : List ℕ} {m : ℕ} → Put (decimal (n / 10)) at old mid m → Put (decimal n) at old (set mid m (48 + n % 10)) (m + 1)
-  more-put h p = rw (decimal-more n h) (put-byte p (digit (n % 10)) (last-room h p))

@@ -1,6 +1,6 @@
 -- After an accepted call that writes lists 3 to 8, the lists give the scene's report. Assumes nothing.
 use mathlib.Core.List.{List, [], _∷_, _++_, map, flatMap}
-use mathlib.Core.Path.{_≡_, refl, sym, ap, _∙_}
+use mathlib.Core.Path.{_≡_, refl, ap, _∙_}
 use Prim.Native.Nat.{ℕ, _≤_, _<_}
 use native.Mathlib.Omega.{arith}
 use lib.ListN.{length, getD, take, length-map}
@@ -21,7 +21,7 @@ use Rattle.rules.proofs.Written.{written-front, written-length}
 use Rattle.laws.proofs.StoredEdges.{storedEdge, storedEdges, field-back, stored-back}
 use Rattle.laws.proofs.Room.{labels-fit}
 use Rattle.laws.proofs.CallEntries.{assessed-same}
-use Rattle.text.specs.ReportLists.{rows, reasonOf, reasonRow, projectedRow, labelOf, labelRow, printedLists, reportBy, ReasonsWithin, EdgesWithin, LabelsWithin, ReportWithin}
+use Rattle.text.specs.ReportLists.{rows, reasonOf, reasonRow, projectedRow, labelOf, labelRow, printedLists, reportBy, ReportWithin}
 use Rattle.text.proofs.PutSteps.{rows-are}
 
 -- An entry read back
@@ -110,9 +110,9 @@ module _ {s : Scene} {old new : AssessLists} {a : Assessment} {ids : List ℕ} (
   pub report-by : reportBy a ids (printedLists new) ≡ report (s .components) (edges s)
   report-by = rw (assessed-same (call .answered), ← named) (by-assessment s old new call)
 
-  pub report-within : ReportWithin a ids (printedLists new)
+  pub report-shapes : ReportWithin a ids (printedLists new)
   unfolding assessment
-  report-within =
+  report-shapes =
       let e = assessed-same (call .answered) in
       let r = ap (λ a. a .reasons) e in
       let p = ap (λ a. a .projected) e in

@@ -18,7 +18,7 @@ use Rattle.laws.proofs.ReadScenes.{fields-scene, read-checked}
 use Rattle.laws.proofs.ReportRoom.{report-room}
 use Rattle.text.specs.ReportLists.{Room, Put, printedLists, reportBy, ReportWithin}
 use Rattle.text.specs.Answers.{FieldsRead}
-use Rattle.text.proofs.ReportLaws.{report-by, report-within}
+use Rattle.text.proofs.ReportLaws.{report-by, report-shapes}
 
 -- lists as long as a scene at the limits needs them
 pub record Sized (o : AssessLists) : Type 0 where
@@ -108,7 +108,7 @@ module _ (l : ComponentLists) (m : ConnectionLists) (f : FieldsRead l m) where
         scene-reported = report-by assessed (component-ids l) ∙ sym (ap (λ c. reportChecked c (sceneOf l m)) accepted)
 
         pub scene-within : ReportWithin a (l .ids) (printedLists new)
-        scene-within = report-within assessed (component-ids l)
+        scene-within = report-shapes assessed (component-ids l)
 
         pub scene-room : (out : List ℕ) → 1048576 ≤ length out → Room (reportBy a (l .ids) (printedLists new)) 0 out
         scene-room out h =

@@ -21,7 +21,7 @@ use Rattle.laws.proofs.StoredEdges.{storedEdge}
 pub record Room (text : List ℕ) (at : ℕ) (out : List ℕ) : Type 0 where
   pub fits : at + length text ≤ length out
 
--- a text was put into a list of bytes from a place on: what the list holds then, and the place after the text
+-- a text was put into a list of bytes from a place on, where it had room: what the list holds then, and the place after the text
 pub record Put (text : List ℕ) (at : ℕ) (old new : List ℕ) (next : ℕ) : Type 0 where
   pub room : Room text at old
   pub content : new ≡ writtenFrom at old text
@@ -44,10 +44,12 @@ reasonOf kind v low high =
     cond (eqb kind 0) (unequalReconvergentDelay v low high)
     (cond (eqb kind 1) feedbackLoop (cond (eqb kind 2) (statefulOrMechanicalDevice v 0) (lockedRepeater v)))
 
+-- the line of the entry at an index of list 3
 unfoldable pub reasonRow : (feedback kinds components minimums maximums : List ℕ) → ℕ → List ℕ
 reasonRow feedback kinds components minimums maximums k =
     reasonLine feedback (reasonOf (getD kinds k 0) (getD components k 0) (getD minimums k 0) (getD maximums k 0))
 
+-- a projected edge by its fields
 abbrev pub edgeOf : (source sink inverted minimum maximum : ℕ) → List ℕ → ProjectedEdge
 edgeOf a b i low high p = record { source = a; sink = b; inverted = i; minimum = low; maximum = high; path = p }
 
@@ -56,6 +58,7 @@ abbrev pub edgeLists : (sources sinks inverted minimums maximums starts lengths 
 edgeLists sources sinks inverted minimums maximums starts lengths paths =
     assessLists [] [] [] [] [] [] [] sources sinks inverted minimums maximums starts lengths paths [] [] []
 
+-- the lines of the entry at an index of list 6
 unfoldable pub projectedRow : AssessLists → ℕ → List ℕ
 projectedRow o k = projectedLines (storedEdge o k)
 
@@ -63,6 +66,7 @@ projectedRow o k = projectedLines (storedEdge o k)
 unfoldable pub labelOf : (settled low high : ℕ) → Label
 labelOf settled low high = cond (eqb settled 0) unsettled (between low high)
 
+-- the lines of the component at an index
 unfoldable pub labelRow : (ids settled lows highs : List ℕ) → ℕ → List ℕ
 labelRow ids settled lows highs k = labelLines (λ v. labelOf (getD settled k 0) (getD lows k 0) (getD highs k 0)) (getD ids k 0)
 

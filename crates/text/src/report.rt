@@ -7,7 +7,6 @@ use projection::projected_path::projected_path;
 use rules::answers::Assessment;
 use rules::answers::BehaviorPattern;
 use rules::answers::TemporalScope;
-ghost use mathlib.Core.Path.{_≡_};
 ghost use mathlib.Core.List.{[]};
 ghost use Prim.Native.Nat.{ℕ};
 ghost use lib.ListN.{length};

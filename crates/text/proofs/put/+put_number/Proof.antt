@@ -1,9 +1,7 @@
 -- The digits of the tenth, then the last. The measure is the number. Assumes nothing.
-use mathlib.Core.Path.{_∙_}
 use native.Mathlib.Omega.{arith}
-use borrow.Author.Needs.{needs}
 use lib.ListN.{length-set}
-use Rattle.text.proofs.PutSteps.{one-room, one-put, tenth-room, last-room, more-put}
+use Rattle.text.proofs.DigitSteps.{one-room, one-put, tenth-room, last-room, more-put}
 use Prim.Native.Nat.{ℕ, _<_}
 use borrow.Fn.Kinds.{In}
 use borrow.Fn.PlainCycle.{Measures, is, falls, and}

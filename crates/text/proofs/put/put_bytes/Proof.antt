@@ -1,5 +1,5 @@
 -- Byte by byte. Assumes nothing.
-use mathlib.Core.Path.{refl, sym}
+use mathlib.Core.Path.{refl}
 use Prim.Native.Nat.{ℕ, _-_, _≤_}
 use native.Mathlib.Omega.{arith}
 use borrow.Author.Needs.{needs}
