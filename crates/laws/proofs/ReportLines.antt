@@ -7,7 +7,7 @@ use Prim.Native.Char.{code}
 use native.Mathlib.Nat.{suc-mul}
 use native.Mathlib.Omega.{arith}
 use lib.ListN.{length, length-append}
-use Rattle.rules.specs.Bytes.{bytes, decimal}
+use Rattle.rules.specs.Bytes.{bytes, largest64, decimal}
 use Rattle.rules.specs.Text.{lineFeed, fieldLine}
 use Rattle.rules.specs.Graph.{Edge, settled}
 use Rattle.rules.specs.Paths.{delaySum, pathsTo, extreme, extremeSum, smallestSum, largestSum}
@@ -42,7 +42,7 @@ flat-size f n (x ∷ l) h =
 
 -- numbers of 64 and of 32 bits
 abbrev pub Bits64 : ℕ → Type 0
-Bits64 v = v ≤ 18446744073709551615
+Bits64 v = v ≤ largest64
 
 abbrev pub Bits32 : ℕ → Type 0
 Bits32 v = v ≤ 4294967295

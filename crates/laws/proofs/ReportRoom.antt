@@ -8,7 +8,7 @@ use native.Mathlib.Omega.{arith}
 use lib.Dec.{eqb}
 use lib.ListN.{length, length-append, length-map}
 use Rattle.rules.specs.Lists.{keep, count}
-use Rattle.rules.specs.Bytes.{bytes, decimal}
+use Rattle.rules.specs.Bytes.{bytes, largest64, decimal}
 use Rattle.rules.specs.Kinds.{repeaterCode, comparatorCode, pistonCode}
 use Rattle.rules.specs.Scene.{Component, Scene, idOf, risingIds, delayAt, edges}
 use Rattle.rules.specs.Graph.{Edge}
@@ -33,7 +33,7 @@ use Rattle.laws.proofs.ReadScenes.{fields-components, fields-connection
 use Rattle.laws.proofs.ReportLines.{Bits64, Short, ReasonShort, ProjectedShort, UpTo, joined, line, flat-size, number-64, number-32, sum-capped, extreme-capped, scope-size, pattern-size, reason-line-size, loop-size, projected-size, label-lines-size}
 
 -- "A refusal prints two lines only"
-pub refusal-room : (number place : ℕ) → number ≤ 4294967295 → place ≤ 18446744073709551615 → length (refusalText number place) ≤ 1048576
+pub refusal-room : (number place : ℕ) → number ≤ 4294967295 → place ≤ largest64 → length (refusalText number place) ≤ 1048576
 unfolding refusalText
 refusal-room number place h k = omega (arith, joined (line (bytes "refusal=") (number-32 number h)) (line (bytes "place=") (number-64 place k)) .size)
 
@@ -141,7 +141,7 @@ module _ (cs : List Component) (es : List Edge) (short : Short (map idOf cs)) wh
         omega (arith, all .size, projected-fit cs es listed distinct m h, path-ids-fit cs es listed distinct m h, feedback-fit cs es)
 
 -- So for an accepted scene whose ids have 64 bits
-module _ (limits : SceneLimits) (s : Scene) (accepted : checkRead limits s ≡ Accepted) (short : (c : Component) → List·Memᴰ c (s .components) → c .id ≤ 18446744073709551615) where
+module _ (limits : SceneLimits) (s : Scene) (accepted : checkRead limits s ≡ Accepted) (short : (c : Component) → List·Memᴰ c (s .components) → c .id ≤ largest64) where
   facts : AcceptedScene limits (componentFields (s .components)) (connectionFields (s .connections)) []
   unfolding checkRead
   facts = accepted→ limits (componentFields (s .components)) (connectionFields (s .connections)) [] accepted
@@ -165,6 +165,6 @@ module _ (limits : SceneLimits) (s : Scene) (accepted : checkRead limits s ≡ A
   report-room-within h k = omega (arith, accepted-report-length)
 
 -- no report is cut
-pub report-room : (s : Scene) → checkRead sceneLimits s ≡ Accepted → ((c : Component) → List·Memᴰ c (s .components) → c .id ≤ 18446744073709551615)
+pub report-room : (s : Scene) → checkRead sceneLimits s ≡ Accepted → ((c : Component) → List·Memᴰ c (s .components) → c .id ≤ largest64)
     → length (report (s .components) (edges s)) ≤ 1048576
 report-room s accepted short = report-room-within sceneLimits s accepted short (omega arith) (omega arith)

@@ -7,24 +7,12 @@ use lib.ListN.{length, getD, length-map}
 use Rattle.rules.specs.Lists.{indices, written}
 use Rattle.rules.specs.Scene.{Scene, edges}
 use Rattle.rules.specs.Projection.{ProjectedEdge, projected, projectedPath}
-use Rattle.rules.specs.Assess.{AssessLists, AssessedBy}
+use Rattle.rules.specs.Assess.{AssessLists, storedEdge, AssessedBy}
 use Rattle.rules.specs.declared.answers.Checked.the-variants.{Accepted}
 use Rattle.rules.specs.declared.answers.SceneAnswer.{SceneAnswer}
 use Rattle.rules.proofs.Indices.{map-at, made-same}
 use Rattle.rules.proofs.Written.{written-at}
 use Rattle.laws.proofs.PathParts.{path-back}
-
--- the entry of list 6 at one index, "in all fields but its path's start, with that path's ids in order"
-unfoldable pub storedEdge : AssessLists → ℕ → ProjectedEdge
-storedEdge o k =
-    record {
-      source = getD (o .projectedSources) k 0;
-      sink = getD (o .projectedSinks) k 0;
-      inverted = getD (o .projectedInverted) k 0;
-      minimum = getD (o .projectedMinimums) k 0;
-      maximum = getD (o .projectedMaximums) k 0;
-      path = projectedPath (o .pathIds) (o .projectedStarts) (o .projectedLengths) k;
-    }
 
 -- so many entries of list 6, from the first on
 unfoldable pub storedEdges : AssessLists → ℕ → List ProjectedEdge

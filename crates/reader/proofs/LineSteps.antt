@@ -1,16 +1,17 @@
 -- Comparing a name and looking for a line's end, byte by byte, and the line that is found. Assumes nothing.
-use mathlib.Core.Bool.{Bool, true, false, cond, _&&_}
+use mathlib.Core.Bool.{Bool, true, false, cond}
 use mathlib.Core.List.{List, [], _∷_}
 use mathlib.Core.Path.{_≡_, refl, sym, ap, ap₂, _∙_}
 use Prim.Native.Nat.{ℕ, zero, suc, _+_, _-_, _≤_, _<_}
 use native.Mathlib.Numerals.{add-one}
 use native.Mathlib.Omega.{arith}
 use borrow.Author.Tests.{eq-eqb, ne-eqb}
-use lib.Dec.{eqb}
-use lib.ListN.{length, getD, take, drop, length-take, drop-of-length-le}
+use lib.Dec.{T, eqb}
+use lib.ListN.{length, getD, take, drop, length-append, length-take, drop-of-length-le}
 use lib.Seq.{drop-cons, drop-drop, take-nil}
 use Rattle.rules.specs.Lists.{any}
 use Rattle.rules.specs.Text.{lineFeed, hasLine, lineOf, afterLine, startsWith}
+use Rattle.rules.proofs.TextLines.{starts-split}
 use Rattle.reader.specs.Lines.{LineEnd, hasName, FoundLine}
 
 -- Comparing a name
@@ -47,14 +48,7 @@ module _ (name line : List ℕ) (i : ℕ) where
 
 -- a line that starts with a name has room for it
 pub name-fits : (name line : List ℕ) → startsWith name line ≡ true → length name ≤ length line
-unfolding startsWith
-name-fits [] line e = omega arith
-name-fits (n ∷ ns) [] e = let z : _≡_ {A = ℕ} 0 1 = cc in absurd (omega arith)
-name-fits (n ∷ ns) (b ∷ bs) e = go (eqb n b) (name-fits ns bs) e
-  where
-    go : (t : Bool) → (startsWith ns bs ≡ true → length ns ≤ length bs) → (t && startsWith ns bs) ≡ true → suc (length ns) ≤ suc (length bs)
-    go true below f = omega (arith, below f)
-    go false below f = let z : _≡_ {A = ℕ} 0 1 = cc in absurd (omega arith)
+name-fits name line e = let t : T (startsWith name line) = rw e tt in omega (arith, ap length (starts-split name line t), length-append name (drop (length name) line))
 
 -- Looking for a line's end
 

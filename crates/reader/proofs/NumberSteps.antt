@@ -2,18 +2,19 @@
 use mathlib.Core.Bool.{Bool, true, false, not, cond, _&&_}
 use mathlib.Core.List.{List, [], _∷_}
 use mathlib.Core.Option.{Option, none, some}
-use mathlib.Core.Path.{_≡_, refl, ap, _∙_}
+use mathlib.Core.Path.{_≡_, refl, sym, ap, _∙_}
 use Prim.Native.Nat.{ℕ, zero, suc, _+_, _*_, _-_, _≤_, _<_}
 use native.Mathlib.Numerals.{add-one}
 use native.Mathlib.Omega.{arith}
-use borrow.Author.Tests.{eq-eqb, ne-eqb, le-leb, lt-leb, leb-true}
+use borrow.Author.Tests.{eq-eqb, ne-eqb, le-leb, lt-leb}
 use lib.Dec.{eqb, leb}
 use lib.IntN.{negsuc}
 use lib.ListN.{length, getD, drop, drop-of-length-le}
 use lib.Seq.{drop-cons}
 use Rattle.rules.specs.Lists.{every}
-use Rattle.rules.specs.Text.{startsWith, delayWord}
-use Rattle.rules.specs.Bytes.{bytes, isDigit, valueFrom, leadingZero, isDecimal, numberUpTo, negative, notNegative, signedNumber}
+use Rattle.rules.specs.Text.{isNone, delayWord}
+use Rattle.rules.specs.Bytes.{isDigit, valueFrom, leadingZero, isDecimal, numberUpTo, negative, notNegative, signedNumber}
+use Rattle.rules.proofs.Decimals.{number-text, delay-text}
 
 -- what digits say after those read before them, up to the largest
 unfoldable pub digitsFrom : ℕ → ℕ → List ℕ → Option ℕ
@@ -106,13 +107,7 @@ module _ (most : ℕ) where
 
   -- a number that is read is at most the largest
   pub number-fits : (bs : List ℕ) (n : ℕ) → some n ≡ numberUpTo most bs → n ≤ most
-  unfolding numberUpTo
-  number-fits bs n e = go (isDecimal bs) (leb (valueFrom 0 bs) most) (leb-true (valueFrom 0 bs) most) e
-    where
-      go : (a b : Bool) → (b ≡ true → valueFrom 0 bs ≤ most) → some n ≡ cond (a && b) (some (valueFrom 0 bs)) none → n ≤ most
-      go true true h f = let same : n ≡ valueFrom 0 bs = cc in omega (arith, h refl)
-      go true false h f = let z : _≡_ {A = ℕ} 0 1 = cc in absurd (omega arith)
-      go false b h f = let z : _≡_ {A = ℕ} 0 1 = cc in absurd (omega arith)
+  number-fits bs n e = number-text most bs n (sym e) .1
 
 -- The form of a signed number
 
@@ -138,9 +133,6 @@ negative-is (suc n) h = let e : n ≡ suc n - 1 = omega arith in ap (λ k. some 
 
 -- The form of a delay's word
 
-abbrev isNone : List ℕ → Bool
-isNone bs = startsWith (bytes "none") bs && eqb (length bs) 4
-
 pub delay-none : (bs : List ℕ) → isNone bs ≡ true → delayWord bs ≡ some 256
 unfolding delayWord
 delay-none bs e = rw e
@@ -150,9 +142,4 @@ unfolding delayWord
 delay-number bs e = rw e
 
 pub delay-fits : (bs : List ℕ) (n : ℕ) → some n ≡ delayWord bs → n ≤ 256
-unfolding delayWord
-delay-fits bs n e = go (isNone bs) e
-  where
-    go : (t : Bool) → some n ≡ cond t (some 256) (numberUpTo 255 bs) → n ≤ 256
-    go true f = let same : n ≡ 256 = cc in omega arith
-    go false f = omega (arith, number-fits 255 bs n f)
+delay-fits bs n e = delay-text bs n (sym e) .1

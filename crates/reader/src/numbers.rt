@@ -1,12 +1,9 @@
 // A value's bytes as a number.
 ghost use mathlib.Core.Path.{_≡_};
 ghost use Prim.Native.Nat.{_-_, _<_, _≤_};
-ghost use mathlib.Core.Bool.{_&&_};
-ghost use lib.Dec.{eqb};
 ghost use lib.IntN.{negsuc};
-ghost use lib.ListN.{length};
-ghost use Rattle.rules.specs.Bytes.{bytes, leadingZero, numberUpTo, signedNumber};
-ghost use Rattle.rules.specs.Text.{startsWith, delayWord};
+ghost use Rattle.rules.specs.Bytes.{leadingZero, numberUpTo, signedNumber};
+ghost use Rattle.rules.specs.Text.{isNone, delayWord};
 ghost use Rattle.reader.specs.Readings.{numberOption, signedOption};
 use crate::lines::starts_with;
 
@@ -97,7 +94,7 @@ pub fn signed_number(digits: &[u8]) -> SignedRead
 
 // Whether the bytes are `none`.
 fn is_none(digits: &[u8]) -> bool
-    ensures { λ r. ⌜ r ≡ (startsWith (bytes "none") (now (digits .entry)) && eqb (length (now (digits .entry))) 4) ⌝ }
+    ensures { λ r. ⌜ r ≡ isNone (now (digits .entry)) ⌝ }
 {
     if starts_with(digits, b"none") {
         return digits.len() == 4;

@@ -7,7 +7,7 @@ use crate::fields::number_field;
 use crate::fields::signed_field;
 
 // The largest of 64 bits, which counts and ids have.
-const LARGEST: u64 = 18446744073709551615;
+const LARGEST: u64 = u64::MAX;
 
 pub struct ComponentRow {
     pub id: u64,
@@ -36,6 +36,7 @@ pub enum ConnectionRead {
     Read { row: ConnectionRow, next: usize },
 }
 
+// Reads a component's seven lines from a place on.
 pub fn read_component(text: &[u8], at: usize) -> ComponentRead
     ensures { λ r. ⌜ ComponentReadAt (now (text .entry)) at r ⌝ }
 {
@@ -88,6 +89,7 @@ pub fn read_component(text: &[u8], at: usize) -> ComponentRead
     ComponentRead::Read { row, next: at }
 }
 
+// Reads a connection's three lines from a place on.
 pub fn read_connection(text: &[u8], at: usize) -> ConnectionRead
     ensures { λ r. ⌜ ConnectionReadAt (now (text .entry)) at r ⌝ }
 {

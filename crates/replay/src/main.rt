@@ -1,6 +1,14 @@
 // The stored sample replayed. Standard input has texts one after another, each with the report that the Rust has for it: a header of two
 // lengths, the text, the report. Each text is answered anew and held against its report, byte for byte.
 
+use text::answer::REPORT_ROOM;
+use text::answer::report_text;
+
+// Room for a text somewhat over the limit, and for the longest report of the sample.
+const TEXT_ROOM: usize = 65600;
+
+const WANTED_ROOM: usize = 262144;
+
 // What came of one text of the sample.
 enum Outcome {
     Ended,
@@ -14,13 +22,13 @@ fn with_digit(number: usize, byte: u8) -> usize {
     if number >= 10000000 {
         return number;
     }
-    if byte < 48 {
+    if byte < b'0' {
         return number;
     }
-    if byte > 57 {
+    if byte > b'9' {
         return number;
     }
-    number * 10 + (byte - 48) as usize
+    number * 10 + (byte - b'0') as usize
 }
 
 fn number(digits: &[u8]) -> usize {
@@ -65,12 +73,12 @@ fn answered(
     text_length: usize,
     wanted: &[u8],
     report_length: usize,
-    out: &mut [u8; 1048576],
+    out: &mut [u8; REPORT_ROOM],
 ) -> bool {
     if text.len() < text_length {
         return false;
     }
-    let n = text::answer::report_text(&text[..text_length], &mut *out);
+    let n = report_text(&text[..text_length], &mut *out);
     if n != report_length {
         return false;
     }
@@ -80,7 +88,7 @@ fn answered(
 fn replay_case(
     text: &mut [u8],
     wanted: &mut [u8],
-    out: &mut [u8; 1048576],
+    out: &mut [u8; REPORT_ROOM],
     text_length: usize,
     report_length: usize,
 ) -> Outcome {
@@ -98,7 +106,7 @@ fn replay_case(
 }
 
 // A header is two numbers of eight digits, each with a byte behind it.
-fn replay_next(text: &mut [u8], wanted: &mut [u8], out: &mut [u8; 1048576]) -> Outcome {
+fn replay_next(text: &mut [u8], wanted: &mut [u8], out: &mut [u8; REPORT_ROOM]) -> Outcome {
     let mut header = [0u8; 9];
     let got = io::read_full(0, &mut header);
     if got == 0 {
@@ -163,7 +171,7 @@ fn print_tally(tally: Tally) {
 }
 
 // A proved loop has to end: a sample has fewer than a million texts.
-fn replay_all(text: &mut [u8], wanted: &mut [u8], out: &mut [u8; 1048576]) {
+fn replay_all(text: &mut [u8], wanted: &mut [u8], out: &mut [u8; REPORT_ROOM]) {
     let mut tally = Tally {
         count: 0,
         differ: 0,
@@ -185,13 +193,13 @@ fn replay_all(text: &mut [u8], wanted: &mut [u8], out: &mut [u8; 1048576]) {
 }
 
 // Arrays behind references: their lengths are known by their types, so nothing computes on a million zeros.
-fn lend(text: &mut [u8; 65600], wanted: &mut [u8; 262144], out: &mut [u8; 1048576]) {
+fn lend(text: &mut [u8; TEXT_ROOM], wanted: &mut [u8; WANTED_ROOM], out: &mut [u8; REPORT_ROOM]) {
     replay_all(text, wanted, out);
 }
 
 fn main() {
-    let mut text = [0u8; 65600];
-    let mut wanted = [0u8; 262144];
-    let mut out = [0u8; 1048576];
+    let mut text = [0u8; TEXT_ROOM];
+    let mut wanted = [0u8; WANTED_ROOM];
+    let mut out = [0u8; REPORT_ROOM];
     lend(&mut text, &mut wanted, &mut out);
 }

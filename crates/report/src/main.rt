@@ -1,7 +1,7 @@
 // The program: reads the text of a scene from standard input and prints its report, or the refusal.
 ghost use Prim.Native.Nat.{_≤_};
 ghost use lib.ListN.{length};
-use text::answer::MAX_TEXT;
+use rules::limits::MAX_TEXT;
 use text::answer::REPORT_ROOM;
 use text::answer::report_text;
 
@@ -10,7 +10,7 @@ const INPUT_ROOM: usize = MAX_TEXT + 1;
 
 // Reads once and drops what came; answers whether anything did.
 fn drop_some() -> bool {
-    let mut dropped = io::buffer();
+    let mut dropped = io::large_buffer();
     libc::read(0, &mut dropped) > 0
 }
 
@@ -23,10 +23,13 @@ fn drop_rest() {
     }
 }
 
+// Where the output takes no more, a line on standard error says so.
 fn print(out: &[u8], n: usize)
     requires { ⌜ n ≤ length (now out) ⌝ }
 {
-    io::write_all(1, &out[..n]);
+    if !io::write_all(1, &out[..n]) {
+        io::write_all(2, b"report: the report could not be written whole\n");
+    }
 }
 
 // The contract of report_text says that the whole report stands in `out`.

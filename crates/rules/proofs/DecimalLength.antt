@@ -6,7 +6,7 @@ use native.Mathlib.Nat.{pow-suc, div-lt-iff-lt-mul}
 use native.Mathlib.Omega.{arith}
 use lib.Dec.{T, ltb, lt→ltb}
 use lib.ListN.{length, length-append}
-use Rattle.rules.specs.Bytes.{digit, digitsUpTo, decimal}
+use Rattle.rules.specs.Bytes.{largest64, digit, digitsUpTo, decimal}
 
 -- a number below a power of ten has no more digits than the power
 digits-length : (f k n : ℕ) → n < 10 ^ suc k → length (digitsUpTo f n) ≤ suc k
@@ -42,7 +42,7 @@ unfolding decimal
 decimal-few n = digits-few (suc n) n
 
 -- a number of 64 bits has at most 20 digits, and one of 32 bits at most 10
-pub length-64 : (n : ℕ) → n ≤ 18446744073709551615 → length (decimal n) ≤ 20
+pub length-64 : (n : ℕ) → n ≤ largest64 → length (decimal n) ≤ 20
 length-64 n h = decimal-length n 20 (omega arith) (omega arith)
 
 pub length-32 : (n : ℕ) → n ≤ 4294967295 → length (decimal n) ≤ 10

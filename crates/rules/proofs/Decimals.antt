@@ -42,11 +42,11 @@ digits-enough (suc j) (suc k) n g h = go (few-or-many n) (λ a. digits-enough j 
     go (inr a) below = digits-many j n a ∙ ap (λ l. l ++ (digit (n % 10) ∷ [])) (below a) ∙ sym (digits-many k n a)
 
 -- a number below 10 is a digit; another is that of its tens, and a digit
-decimal-few : (d : ℕ) → d < 10 → decimal d ≡ digit d ∷ []
+pub decimal-digit : (d : ℕ) → d < 10 → decimal d ≡ digit d ∷ []
 unfolding decimal
-decimal-few d h = digits-few d d h
+decimal-digit d h = digits-few d d h
 
-decimal-many : (v d : ℕ) → 1 ≤ v → d < 10 → decimal (10 * v + d) ≡ decimal v ++ (digit d ∷ [])
+pub decimal-many : (v d : ℕ) → 1 ≤ v → d < 10 → decimal (10 * v + d) ≡ decimal v ++ (digit d ∷ [])
 unfolding decimal
 decimal-many v d h g =
     let n : ℕ = 10 * v + d in
@@ -77,7 +77,7 @@ value-append v (c ∷ bs) b = value-append (10 * v + (c - 48)) bs b
 pub decimal-value : (n : ℕ) → value (decimal n) ≡ n
 unfolding valueFrom
 decimal-value = by-digits (λ n. value (decimal n) ≡ n)
-    (λ d h. rw (decimal-few d h) (omega arith))
+    (λ d h. rw (decimal-digit d h) (omega arith))
     (λ v d h g e. rw (decimal-many v d h g, value-append, e) (omega arith))
 
 -- each byte of it is a digit
@@ -92,7 +92,7 @@ digit-is d h = and-both (leb 48 (48 + d)) (leb (48 + d) 57) (le→leb 48 (48 + d
 decimal-digits : (n : ℕ) → T (every isDigit (decimal n))
 unfolding every
 decimal-digits = by-digits (λ n. T (every isDigit (decimal n)))
-    (λ d h. rw (decimal-few d h) (and-both (isDigit (digit d)) true (digit-is d h) tt))
+    (λ d h. rw (decimal-digit d h) (and-both (isDigit (digit d)) true (digit-is d h) tt))
     (λ v d h g e. rw (decimal-many v d h g) (every-append (decimal v) (digit d) e (digit-is d g)))
 
 -- the first digit of a number above 0 is above 0
@@ -105,7 +105,7 @@ leads-append (x ∷ a) b h = h
 
 decimal-leads : (n : ℕ) → 1 ≤ n → Leads (decimal n)
 decimal-leads = by-digits (λ n. 1 ≤ n → Leads (decimal n))
-    (λ d h o. rw (decimal-few d h) (omega arith))
+    (λ d h o. rw (decimal-digit d h) (omega arith))
     (λ v d h g e o. rw (decimal-many v d h g) (leads-append (decimal v) (digit d ∷ []) (e h)))
 
 leads-form : (bs : List ℕ) → Leads bs → T (every isDigit bs) → T (isDecimal bs)
@@ -138,7 +138,7 @@ decimal-from v (b ∷ bs) h t =
     ∙ ap (λ c. decimal v ++ (c ∷ bs)) (d .1)
 
 decimal-first : (b : ℕ) → T (isDigit b) → decimal (0 + (b - 48)) ≡ b ∷ []
-decimal-first b t = let d = digit-value b t in decimal-few (0 + (b - 48)) (omega (arith, d .0)) ∙ ap (λ c. c ∷ []) (omega (arith, d .1))
+decimal-first b t = let d = digit-value b t in decimal-digit (0 + (b - 48)) (omega (arith, d .0)) ∙ ap (λ c. c ∷ []) (omega (arith, d .1))
 
 pub value-decimal : (bs : List ℕ) → T (isDecimal bs) → decimal (value bs) ≡ bs
 unfolding isDecimal valueFrom every

@@ -2,7 +2,6 @@
 -- and texts that break the form. Assumes nothing.
 use mathlib.Core.List.{List, [], _∷_, map}
 use mathlib.Core.Path.{_≡_, refl}
-use Prim.Native.Nat.{ℕ}
 use Prim.Native.String.{String, _++_}
 use Rattle.rules.specs.Lists.{every}
 use Rattle.rules.specs.Bytes.{bytes, valueFrom, isDecimal, numberUpTo, signedNumber, digitsUpTo, decimal}

@@ -7,7 +7,7 @@ use native.Mathlib.Omega.{arith}
 use lib.Dec.{ltb, ltb→lt}
 use lib.ListN.{length, length-append}
 use Rattle.rules.specs.Lists.{notEmpty, any}
-use Rattle.rules.specs.Bytes.{bytes, numberUpTo, signedNumber, decimal, signedDecimal}
+use Rattle.rules.specs.Bytes.{bytes, largest64, numberUpTo, signedNumber, decimal, signedDecimal}
 use Rattle.rules.specs.Scene.{Component, Connection, Scene}
 use Rattle.rules.specs.Text.{Place, place, Reading, broken, read, andThen, field, delayWord, counted, component, connection, ended, sceneAt, maxText, readScene, fieldLine, delayText, componentText, connectionText, sceneText, Signed32, ComponentWidths, ConnectionWidths, SceneWidths}
 use Rattle.rules.proofs.Lists.{not-chosen}
@@ -29,7 +29,7 @@ signed-form = field-form signedNumber signedDecimal Signed32 signed-read signed-
 
 -- the largest number of 64 bits
 abbrev most64 : ℕ
-most64 = 18446744073709551615
+most64 = largest64
 
 component-form : Form component componentText ComponentWidths (λ c. 7)
 unfolding component componentText any

@@ -3,13 +3,13 @@ use mathlib.Core.Bool.{not}
 use mathlib.Core.List.{List, [], _∷_, map}
 use mathlib.Core.Path.{_≡_}
 use Prim.Native.Nat.{ℕ}
-use lib.ListN.{length}
+use lib.ListN.{length, getD}
 use Rattle.rules.specs.Lists.{count}
 use Rattle.rules.specs.Codes.{scopeCode, patternCode}
 use Rattle.rules.specs.Scene.{Component, Scene, ComponentLists, ConnectionLists, sceneOf, edges}
 use Rattle.rules.specs.Labels.{labels, settledFlag, lowSum, highSum}
 use Rattle.rules.specs.Reasons.{reasons, reasonKind, reasonComponent, reasonBlock, reasonMinimum, reasonMaximum, feedback, scope, pattern}
-use Rattle.rules.specs.Projection.{compressed, marks, projected, pathStarts, pathLength, pathIds}
+use Rattle.rules.specs.Projection.{ProjectedEdge, compressed, marks, projected, pathStarts, pathLength, pathIds, projectedPath}
 use Rattle.rules.specs.Graph.{Edge}
 use Rattle.rules.specs.Refusals.{SceneLimits, Output, after, outputsFrom, checkScene}
 use Rattle.rules.specs.declared.answers.Assessment.{Assessment}
@@ -78,6 +78,18 @@ pub record AssessLists : Type 0 where
 abbrev pub assessLists : (reasonKinds reasonComponents reasonBlocks reasonMinimums reasonMaximums feedbackIds marks projectedSources projectedSinks projectedInverted projectedMinimums projectedMaximums projectedStarts projectedLengths pathIds labelSettled labelLows labelHighs : List ℕ) → AssessLists
 assessLists x0 x1 x2 x3 x4 x5 x6 x7 x8 x9 x10 x11 x12 x13 x14 x15 x16 x17 =
     record { reasonKinds = x0; reasonComponents = x1; reasonBlocks = x2; reasonMinimums = x3; reasonMaximums = x4; feedbackIds = x5; marks = x6; projectedSources = x7; projectedSinks = x8; projectedInverted = x9; projectedMinimums = x10; projectedMaximums = x11; projectedStarts = x12; projectedLengths = x13; pathIds = x14; labelSettled = x15; labelLows = x16; labelHighs = x17 }
+
+-- the entry of list 6 at one index, "in all fields but its path's start, with that path's ids in order"
+unfoldable pub storedEdge : AssessLists → ℕ → ProjectedEdge
+storedEdge o k =
+    record {
+      source = getD (o .projectedSources) k 0;
+      sink = getD (o .projectedSinks) k 0;
+      inverted = getD (o .projectedInverted) k 0;
+      minimum = getD (o .projectedMinimums) k 0;
+      maximum = getD (o .projectedMaximums) k 0;
+      path = projectedPath (o .pathIds) (o .projectedStarts) (o .projectedLengths) k;
+    }
 
 -- what the checks find, given the lists lent
 abbrev pub assessChecked : SceneLimits → ComponentLists → ConnectionLists → AssessLists → Checked

@@ -1,5 +1,5 @@
 -- Texts and numbers as bytes. Assumes nothing: these are definitions.
-use mathlib.Core.Bool.{Bool, true, false, not, cond, _&&_}
+use mathlib.Core.Bool.{Bool, false, not, cond, _&&_}
 use mathlib.Core.List.{List, [], _∷_, _++_}
 use mathlib.Core.Option.{Option, none, some}
 use Prim.Native.Nat.{ℕ, zero, suc, _+_, _*_, _-_, _/_, _%_}
@@ -13,6 +13,10 @@ use Rattle.rules.specs.Lists.{notEmpty, every}
 abbrev pub bytes : String → List ℕ
 bytes end = []
 bytes (c then s) = code c ∷ bytes s
+
+-- the largest number of 64 bits
+abbrev pub largest64 : ℕ
+largest64 = 18446744073709551615
 
 -- Reading a number
 

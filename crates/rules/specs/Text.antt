@@ -8,7 +8,7 @@ use lib.Dec.{eqb, ltb}
 use lib.IntN.{ℤ, pos, negsuc}
 use lib.ListN.{length, drop}
 use Rattle.rules.specs.Lists.{notEmpty, any}
-use Rattle.rules.specs.Bytes.{bytes, numberUpTo, signedNumber, decimal, signedDecimal}
+use Rattle.rules.specs.Bytes.{bytes, largest64, numberUpTo, signedNumber, decimal, signedDecimal}
 use Rattle.rules.specs.Scene.{Component, Connection, Scene}
 
 -- "Each field has its own line, ended by a line feed."
@@ -80,7 +80,7 @@ module _ {A : Type 0} where
 
 -- "counts 64 bits", and "an id (64 bits)"
 abbrev pub number64 : List ℕ → Option ℕ
-number64 bs = numberUpTo 18446744073709551615 bs
+number64 bs = numberUpTo largest64 bs
 
 -- "kind, delay and transfer a byte"
 abbrev pub byte : List ℕ → Option ℕ
@@ -90,9 +90,13 @@ byte bs = numberUpTo 255 bs
 abbrev pub flag : List ℕ → Option ℕ
 flag bs = numberUpTo 1 bs
 
--- "delay may be `none`", which the delay word 256 stands for
+-- "delay may be `none`"
+abbrev pub isNone : List ℕ → Bool
+isNone bs = startsWith (bytes "none") bs && eqb (length bs) 4
+
+-- the delay word 256 stands for it
 unfoldable pub delayWord : List ℕ → Option ℕ
-delayWord bs = cond (startsWith (bytes "none") bs && eqb (length bs) 4) (some 256) (byte bs)
+delayWord bs = cond (isNone bs) (some 256) (byte bs)
 
 -- a count, and as many rows
 module _ {A : Type 0} where
@@ -170,7 +174,7 @@ Signed32 (negsuc n) = suc n ≤ 2147483648
 
 -- the delay word is a byte's number, or 256 for `none`
 pub record ComponentWidths (c : Component) : Type 0 where
-  pub id-fits : c .id ≤ 18446744073709551615
+  pub id-fits : c .id ≤ largest64
   pub kind-fits : c .kind ≤ 255
   pub delay-fits : c .delay ≤ 256
   pub locked-fits : c .locked ≤ 1
@@ -179,8 +183,8 @@ pub record ComponentWidths (c : Component) : Type 0 where
   pub z-fits : Signed32 (c .z)
 
 pub record ConnectionWidths (n : Connection) : Type 0 where
-  pub source-fits : n .source ≤ 18446744073709551615
-  pub sink-fits : n .sink ≤ 18446744073709551615
+  pub source-fits : n .source ≤ largest64
+  pub sink-fits : n .sink ≤ largest64
   pub transfer-fits : n .transfer ≤ 255
 
 pub record SceneWidths (s : Scene) : Type 0 where

@@ -11,3 +11,6 @@ pub const MAX_CONTRACTS: usize = 512;
 pub const MAX_TRACES: u64 = 64;
 
 pub const MAX_FINDINGS_EACH: u64 = 4096;
+
+// The bytes that a scene's text may have; specs/Text.antt has the same number in `maxText`.
+pub const MAX_TEXT: usize = 65536;

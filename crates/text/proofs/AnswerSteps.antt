@@ -1,14 +1,13 @@
 -- From what was read of a text to what is printed for it. Assumes nothing.
 use mathlib.Core.List.{List, [], map}
-use mathlib.Core.Path.{_≡_, refl, sym, ap, _∙_}
-use Prim.Native.Nat.{ℕ, _+_, _≤_, _<_}
+use mathlib.Core.Path.{_≡_, sym, ap, _∙_}
+use Prim.Native.Nat.{ℕ, _≤_, _<_}
 use native.Mathlib.Omega.{arith}
 use lib.Dec.{ltb, ltb→lt, lt→ltb}
 use lib.ListN.{length, take, length-map, length-take}
-use Rattle.rules.specs.Lists.{written}
-use Rattle.rules.specs.Scene.{Component, Connection, Scene, ComponentLists, ConnectionLists, componentLists, connectionLists, sceneOf}
+use Rattle.rules.specs.Scene.{Component, Connection, ComponentLists, ConnectionLists, componentLists, connectionLists, sceneOf}
 use Rattle.rules.specs.Refusals.{sceneLimits, checkScene}
-use Rattle.rules.specs.Text.{Reading, broken, read, place, sceneAt, maxText, readScene}
+use Rattle.rules.specs.Text.{broken, place, sceneAt, maxText, readScene}
 use Rattle.rules.specs.Report.{componentFields, connectionFields, refusalText, checkRead, reportChecked, reportRead, reportOf, ReportCall}
 use Rattle.rules.proofs.Lists.{chosen, not-chosen}
 use Rattle.rules.proofs.SceneTexts.{read-fits}

@@ -11,7 +11,7 @@ use Rattle.rules.specs.Lists.{from, indices, writtenFrom}
 use Rattle.rules.specs.Bytes.{decimal}
 use Rattle.rules.specs.Report.{idsText}
 use Rattle.rules.proofs.Indices.{indices-more, indices-split}
-use Rattle.rules.proofs.Written.{written-front, from-none, from-more, from-twice}
+use Rattle.rules.proofs.Written.{from-none, from-more, from-twice}
 use Rattle.rules.proofs.Made.{Made, made-all}
 use Rattle.projection.proofs.Rows.{flat-append, flat-more}
 use Rattle.text.specs.ReportLists.{Room, Put, rows, idRow}
@@ -50,10 +50,6 @@ module _ {a : List ℕ} {at m : ℕ} {old mid : List ℕ} (p : Put a at old mid 
     content = rw (p .content, p .after) (from-more old a at x (omega (arith, p .after)));
     after = omega (arith, p .after, length-append a (x ∷ []));
   }
-
--- what was put from the front on stands there
-pub put-front : {text old new : List ℕ} {r : ℕ} → Put text 0 old new r → take r new ≡ text
-put-front {text} {old} {r} p = rw (p .content) (written-front old text r (omega (arith, p .after)))
 
 -- a text that was written byte by byte
 pub put-made : (text old new : List ℕ) (at i : ℕ) → Room text at old → i ≡ length text → Made (λ j. getD text j 0) at old new i → Put text at old new (at + i)

@@ -4,7 +4,7 @@ use mathlib.Core.Path.{_≡_}
 use Prim.Native.Nat.{ℕ, suc, _+_, _≤_}
 use lib.ListN.{length, drop}
 use Rattle.rules.specs.Bytes.{numberUpTo}
-use Rattle.rules.specs.Text.{Reading, broken, read, place, field, component, connection}
+use Rattle.rules.specs.Text.{broken, read, place, field, component, connection}
 use Rattle.reader.specs.Readings.{ComponentReadAt, ConnectionReadAt, FieldReadAt, componentOf, connectionOf}
 use Rattle.reader.specs.declared.rows.ComponentRow.{ComponentRow}
 use Rattle.reader.specs.declared.rows.ConnectionRow.{ConnectionRow}

@@ -11,14 +11,14 @@ use Rattle.rules.specs.Labels.{Label, unsettled, between, label, labels, settle
 use Rattle.rules.specs.Reasons.{Reason, unequalReconvergentDelay, feedbackLoop, statefulOrMechanicalDevice, lockedRepeater, reasonKind, reasonComponent, reasonMinimum, reasonMaximum, reasons, feedback}
 use Rattle.rules.specs.Projection.{ProjectedEdge, projected}
 use Rattle.rules.specs.Report.{reasonLine, projectedLines, labelLines, report}
-use Rattle.rules.specs.Assess.{AssessLists, AssessedBy, assessment}
+use Rattle.rules.specs.Assess.{AssessLists, storedEdge, AssessedBy, assessment}
 use Rattle.rules.specs.declared.answers.Assessment.{Assessment}
 use Rattle.rules.specs.declared.answers.Checked.the-variants.{Accepted}
 use Rattle.rules.specs.declared.answers.SceneAnswer.{SceneAnswer}
 use Rattle.rules.specs.declared.answers.SceneAnswer.the-variants.{Assessed}
 use Rattle.rules.proofs.Indices.{map-at}
 use Rattle.rules.proofs.Written.{written-front, written-length}
-use Rattle.laws.proofs.StoredEdges.{storedEdge, storedEdges, field-back, stored-back}
+use Rattle.laws.proofs.StoredEdges.{storedEdges, field-back, stored-back}
 use Rattle.laws.proofs.Room.{labels-fit}
 use Rattle.laws.proofs.CallEntries.{assessed-same}
 use Rattle.text.specs.ReportLists.{rows, reasonOf, reasonRow, projectedRow, labelOf, labelRow, printedLists, reportBy, ReportWithin}

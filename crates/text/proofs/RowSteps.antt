@@ -1,12 +1,12 @@
 -- Rows read one by one into lists: what holds before each, and what follows in the end. Assumes nothing.
 use mathlib.Core.List.{List, [], _∷_, _++_, map, append-assoc, append-nil, map-append}
 use mathlib.Core.Path.{_≡_, refl, sym, ap, _∙_}
-use Prim.Native.Nat.{ℕ, zero, suc, _+_, _*_, _-_, _≤_, _<_}
+use Prim.Native.Nat.{ℕ, suc, _+_, _*_, _-_, _≤_, _<_}
 use native.Mathlib.Omega.{arith}
 use lib.ListN.{length, take, drop, length-append}
-use Rattle.rules.specs.Scene.{Component, Connection, ComponentLists, ConnectionLists, idOf}
+use Rattle.rules.specs.Scene.{Component, Connection, ComponentLists, ConnectionLists}
 use Rattle.rules.specs.Text.{Place, Reading, broken, read, place, andThen, rowsOf}
-use Rattle.text.specs.Filled.{ComponentsFront, ConnectionsFront, ComponentsListed, ConnectionsListed, ComponentStored, ConnectionStored, RowsFound}
+use Rattle.text.specs.Filled.{ComponentsListed, ConnectionsListed, ComponentStored, ConnectionStored, RowsFound}
 
 module _ {A : Type 0} where
   -- rows read after others

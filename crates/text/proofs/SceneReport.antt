@@ -1,10 +1,10 @@
 -- The report of a scene by the answer of the call that assesses it. Assumes nothing.
-use mathlib.Core.List.{List, [], _∷_, map, List·Memᴰ}
+use mathlib.Core.List.{List, [], _∷_}
 use mathlib.Core.Path.{_≡_, refl, sym, ap, _∙_}
-use Prim.Native.Nat.{ℕ, _+_, _≤_}
+use Prim.Native.Nat.{ℕ, _≤_}
 use native.Mathlib.Omega.{arith}
 use lib.ListN.{length, replicate, length-replicate}
-use Rattle.rules.specs.Scene.{Component, Scene, ComponentLists, ConnectionLists, sceneOf, edges, idOf}
+use Rattle.rules.specs.Scene.{Scene, ComponentLists, ConnectionLists, sceneOf, edges}
 use Rattle.rules.specs.Refusals.{sceneLimits, checkScene}
 use Rattle.rules.specs.Assess.{AssessLists, assessLists, AssessedBy, AssessCall, checkAssess, assessChecked, sceneAnswer}
 use Rattle.rules.specs.Report.{componentFields, connectionFields, refusalText, report, checkRead, reportChecked}

@@ -1,8 +1,6 @@
 -- What the report of a scene is made from: lists that were read from a text. Assumes nothing: these are definitions.
-use mathlib.Core.List.{List, List·Memᴰ}
 use mathlib.Core.Path.{_≡_}
-use Prim.Native.Nat.{ℕ, _≤_}
-use Rattle.rules.specs.Scene.{Component, Scene, ComponentLists, ConnectionLists}
+use Rattle.rules.specs.Scene.{Scene, ComponentLists, ConnectionLists}
 use Rattle.rules.specs.Report.{componentFields, connectionFields}
 use Rattle.rules.specs.Text.{SceneWidths}
 

@@ -5,7 +5,7 @@ use Prim.Native.Nat.{ℕ, suc, _≤_}
 use lib.ListN.{length, take, drop}
 use Rattle.rules.specs.Scene.{Component, Connection, Scene, ComponentLists, ConnectionLists}
 use Rattle.rules.specs.Report.{componentFields, connectionFields}
-use Rattle.rules.specs.Text.{Place, Reading, broken, read, place, rowsOf, sceneAt}
+use Rattle.rules.specs.Text.{Place, Reading, broken, read, place, sceneAt}
 use Rattle.text.specs.declared.reading.RowsRead.{RowsRead}
 use Rattle.text.specs.declared.reading.RowsRead.the-variants as RowsRead
 use Rattle.text.specs.declared.reading.CountedRead.{CountedRead}

@@ -13,9 +13,8 @@ use Rattle.rules.specs.Labels.{Label, unsettled, between}
 use Rattle.rules.specs.Reasons.{Reason, unequalReconvergentDelay, feedbackLoop, statefulOrMechanicalDevice, lockedRepeater}
 use Rattle.rules.specs.Projection.{ProjectedEdge}
 use Rattle.rules.specs.Report.{numberLine, scopeText, patternText, reasonLine, projectedLines, labelLines}
-use Rattle.rules.specs.Assess.{AssessLists, assessLists}
+use Rattle.rules.specs.Assess.{AssessLists, assessLists, storedEdge}
 use Rattle.rules.specs.declared.answers.Assessment.{Assessment}
-use Rattle.laws.proofs.StoredEdges.{storedEdge}
 
 -- there is room for a text from a place on
 pub record Room (text : List ℕ) (at : ℕ) (out : List ℕ) : Type 0 where
@@ -50,8 +49,8 @@ reasonRow feedback kinds components minimums maximums k =
     reasonLine feedback (reasonOf (getD kinds k 0) (getD components k 0) (getD minimums k 0) (getD maximums k 0))
 
 -- a projected edge by its fields
-abbrev pub edgeOf : (source sink inverted minimum maximum : ℕ) → List ℕ → ProjectedEdge
-edgeOf a b i low high p = record { source = a; sink = b; inverted = i; minimum = low; maximum = high; path = p }
+abbrev pub printedEdge : (source sink inverted minimum maximum : ℕ) → List ℕ → ProjectedEdge
+printedEdge a b i low high p = record { source = a; sink = b; inverted = i; minimum = low; maximum = high; path = p }
 
 -- lists of which only 6 and 7 are looked at
 abbrev pub edgeLists : (sources sinks inverted minimums maximums starts lengths paths : List ℕ) → AssessLists

@@ -1,12 +1,11 @@
 // From the bytes of a scene's text to the bytes that the program prints for it.
-ghost use mathlib.Core.Path.{_≡_};
 ghost use mathlib.Core.List.{[]};
 ghost use Prim.Native.Nat.{_≤_};
 ghost use lib.ListN.{length};
 ghost use Rattle.rules.specs.Scene.{componentLists, connectionLists, sceneOf};
 ghost use Rattle.rules.specs.Refusals.{sceneLimits, checkScene};
-ghost use Rattle.rules.specs.Report.{refusalText, reportChecked, ReportCall};
-ghost use Rattle.text.specs.ReportLists.{Room, Put};
+ghost use Rattle.rules.specs.Report.{reportChecked, ReportCall};
+ghost use Rattle.text.specs.ReportLists.{Put};
 ghost use Rattle.text.specs.Answers.{FieldsRead};
 use crate::reading::COMPONENT_ROOM;
 use crate::reading::CONNECTION_ROOM;
@@ -18,8 +17,7 @@ use assess::assess::assess_scene;
 use rules::answers::SceneAnswer;
 use rules::limits::MAX_COMPONENTS;
 use rules::limits::MAX_CONNECTIONS;
-
-pub const MAX_TEXT: usize = 65536;
+use rules::limits::MAX_TEXT;
 
 // Room for the longest report: proved in crates/laws, ReportRoom.
 pub const REPORT_ROOM: usize = 1048576;

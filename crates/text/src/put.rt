@@ -26,11 +26,11 @@ pub(crate) fn put_number(out: &mut [u8], at: usize, n: u64) -> usize
     ensures { λ r. ⌜ Put (decimal n) at (now (out .entry)) (now (out .exit)) r ⌝ }
 {
     if n < 10 {
-        out[at] = 48 + n as u8;
+        out[at] = b'0' + n as u8;
         return at + 1;
     }
     let end = put_number(out, at, n / 10);
-    out[end] = 48 + (n % 10) as u8;
+    out[end] = b'0' + (n % 10) as u8;
     end + 1
 }
 

@@ -1,6 +1,5 @@
 // The lists of a scene, filled from its text. A text has at most 65,536 bytes, and a component takes 34 of them at
 // least, a connection 24: so the lists have room for every text.
-ghost use mathlib.Core.Path.{_≡_};
 ghost use Prim.Native.Nat.{_<_, _≤_};
 ghost use lib.ListN.{length, drop};
 ghost use Rattle.rules.specs.Bytes.{bytes};
@@ -39,6 +38,7 @@ pub enum CountedRead {
     },
 }
 
+// How many components and connections were read; or the first line that breaks the form.
 pub enum SceneRead {
     Broken {
         line: u64,
@@ -49,6 +49,8 @@ pub enum SceneRead {
     },
 }
 
+// Stores a component after the first i of each list. A signed number is stored from a local of its own: from a field the
+// borrow checker does not take it.
 fn store_component(
     row: ComponentRow,
     i: usize,
@@ -75,6 +77,7 @@ fn store_component(
     zs[i] = z;
 }
 
+// Stores a connection after the first i of each list.
 fn store_connection(
     row: ConnectionRow,
     i: usize,
@@ -184,7 +187,7 @@ fn counted_components(
     requires { ⌜ length (now text) ≤ maxText ⌝ }
     ensures { λ r. ⌜ CountedFilled (ComponentsListed (componentLists (now (ids .exit)) (now (kinds .exit)) (now (delays .exit)) (now (locked .exit)) (now (xs .exit)) (now (ys .exit)) (now (zs .exit)))) (now (text .entry)) (counted (bytes "components=") component (place 1 (now (text .entry)))) r ⌝ }
 {
-    let counted = number_field(text, 0, b"components=", 18446744073709551615);
+    let counted = number_field(text, 0, b"components=", u64::MAX);
     match counted {
         FieldRead::Broken => CountedRead::Broken { line: 1 },
         FieldRead::Value { value, next } => {
@@ -226,7 +229,7 @@ fn counted_connections(
     requires { ⌜ (at ≤ length (now text)) × (length (now text) ≤ maxText) × (line ≤ at) ⌝ }
     ensures { λ r. ⌜ CountedFilled (ConnectionsListed (connectionLists (now (sources .exit)) (now (sinks .exit)) (now (transfers .exit)))) (now (text .entry)) (counted (bytes "connections=") connection (place line (drop at (now (text .entry))))) r ⌝ }
 {
-    let counted = number_field(text, at, b"connections=", 18446744073709551615);
+    let counted = number_field(text, at, b"connections=", u64::MAX);
     match counted {
         FieldRead::Broken => CountedRead::Broken { line: line },
         FieldRead::Value { value, next } => {

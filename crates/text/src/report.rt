@@ -14,8 +14,9 @@ ghost use Rattle.rules.specs.Bytes.{bytes};
 ghost use Rattle.rules.specs.Text.{fieldLine};
 ghost use Rattle.rules.specs.Assess.{assessLists};
 ghost use Rattle.rules.specs.Report.{scopeText, patternText, reasonLine, projectedLines, labelLines, refusalText};
-ghost use Rattle.text.specs.ReportLists.{Room, Put, rows, reasonOf, reasonRow, edgeOf, edgeLists, projectedRow, labelOf, labelRow, reportBy, ReasonsWithin, EdgesWithin, LabelsWithin, ReportWithin};
+ghost use Rattle.text.specs.ReportLists.{Room, Put, rows, reasonOf, reasonRow, printedEdge, edgeLists, projectedRow, labelOf, labelRow, reportBy, ReasonsWithin, EdgesWithin, LabelsWithin, ReportWithin};
 
+// Puts the line of the scope.
 fn put_scope(out: &mut [u8], at: usize, scope: TemporalScope) -> usize
     requires { ⌜ Room (fieldLine (bytes "scope=") (scopeText scope)) at (now out) ⌝ }
     ensures { λ r. ⌜ Put (fieldLine (bytes "scope=") (scopeText scope)) at (now (out .entry)) (now (out .exit)) r ⌝ }
@@ -27,6 +28,7 @@ fn put_scope(out: &mut [u8], at: usize, scope: TemporalScope) -> usize
     }
 }
 
+// Puts the line of the pattern; a candidate's ids are those of list 4.
 fn put_pattern(out: &mut [u8], at: usize, pattern: BehaviorPattern, feedback: &[u64]) -> usize
     requires { ⌜ Room (fieldLine (bytes "pattern=") (patternText (now feedback) pattern)) at (now out) ⌝ }
     ensures { λ r. ⌜ Put (fieldLine (bytes "pattern=") (patternText (now (feedback .entry)) pattern)) at (now (out .entry)) (now (out .exit)) r ⌝ }
@@ -109,8 +111,8 @@ fn put_projected(
     maximum: u32,
     path: &[u64],
 ) -> usize
-    requires { ⌜ Room (projectedLines (edgeOf source sink inverted minimum maximum (now path))) at (now out) ⌝ }
-    ensures { λ r. ⌜ Put (projectedLines (edgeOf source sink inverted minimum maximum (now (path .entry)))) at (now (out .entry)) (now (out .exit)) r ⌝ }
+    requires { ⌜ Room (projectedLines (printedEdge source sink inverted minimum maximum (now path))) at (now out) ⌝ }
+    ensures { λ r. ⌜ Put (projectedLines (printedEdge source sink inverted minimum maximum (now (path .entry)))) at (now (out .entry)) (now (out .exit)) r ⌝ }
 {
     let at = put_line(out, at, b"source=", source);
     let at = put_line(out, at, b"sink=", sink);

@@ -1,6 +1,5 @@
 -- `number` is safe and ends: the measure is the number of digits left. Assumes nothing.
 use borrow.Author.Needs.{needs}
-use native.Mathlib.Omega.{arith}
 use lib.ListN.{length}
 use Prim.Native.Nat.{_-_}
 use Rattle.replay.proofs.number.Statement.{statement}

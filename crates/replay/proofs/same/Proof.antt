@@ -1,6 +1,5 @@
 -- `same` is safe and ends: the measure is the number of bytes left. Assumes nothing.
 use borrow.Author.Needs.{needs}
-use native.Mathlib.Omega.{arith}
 use Prim.Native.Nat.{_-_}
 use Rattle.replay.proofs.same.Statement.{statement}
 use Rattle.replay.proofs.same.Tie as tie

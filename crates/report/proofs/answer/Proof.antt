@@ -1,3 +1,4 @@
+-- `answer` prints what `report_text` wrote: its contract says that so many bytes stand in the list. Assumes nothing.
 use borrow.Author.Needs.{needs}
 use mathlib.Core.Path.{ap}
 use native.Mathlib.Omega.{arith}

@@ -1,3 +1,4 @@
+-- `print` writes a front of the list. Assumes nothing.
 use borrow.Author.Needs.{needs}
 use mathlib.Core.Path.{sym}
 use lib.Seq.{length-take-le}

@@ -1,9 +1,9 @@
+-- `report_scene` hands the lists of the call to the writer, or writes the refusal. Assumes nothing.
 use borrow.Author.Needs.{needs}
 use native.Mathlib.Omega.{arith}
 use Rattle.rules.specs.Scene.{componentLists, connectionLists}
 use Rattle.text.proofs.AnswerSteps.{refusal-fits}
 use Rattle.text.proofs.SceneReport.{scene-refused, scene-reported, scene-within, scene-room, freshLists, fresh-sized, put-same}
-use borrow.Author.Needs.{needs}
 use Rattle.text.proofs.answer.report_scene.Statement.{statement}
 use Rattle.text.proofs.answer.report_scene.Tie as tie
 

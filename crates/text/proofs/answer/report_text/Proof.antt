@@ -1,9 +1,8 @@
+-- `report_text` refuses, or hands the fronts of the lists that were filled to `report_scene`. Assumes nothing.
 use borrow.Author.Needs.{needs}
-use mathlib.Core.Path.{_≡_, refl}
 use native.Mathlib.Omega.{arith}
 use Rattle.rules.specs.Report.{refusalText}
 use Rattle.text.proofs.AnswerSteps.{told-broken, told-found, report-long, report-broken, called, refusal-fits, front-sizes, fields-read, report-found, front-room}
-use borrow.Author.Needs.{needs}
 use Rattle.text.proofs.answer.report_text.Statement.{statement}
 use Rattle.text.proofs.answer.report_text.Tie as tie
 

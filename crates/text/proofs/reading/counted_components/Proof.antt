@@ -1,8 +1,7 @@
-use mathlib.Core.Path.{_∙_}
+-- `counted_components` reads a count and its components. Assumes nothing.
 use native.Mathlib.Omega.{arith}
 use lib.ListN.{drop}
 use Rattle.rules.specs.Bytes.{bytes}
-use Rattle.rules.specs.Scene.{componentLists}
 use Rattle.rules.specs.Text.{place, component}
 use Rattle.text.specs.Filled.{ComponentsListed}
 use Rattle.text.proofs.ReadRows.{field-broken, field-value}

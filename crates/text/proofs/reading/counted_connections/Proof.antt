@@ -1,9 +1,8 @@
-use mathlib.Core.Path.{_≡_, ap, _∙_}
-use Prim.Native.Nat.{suc, _+_}
+-- `counted_connections` reads a count and its connections. Assumes nothing.
+use Prim.Native.Nat.{_+_}
 use native.Mathlib.Omega.{arith}
 use lib.ListN.{drop}
 use Rattle.rules.specs.Bytes.{bytes}
-use Rattle.rules.specs.Scene.{connectionLists}
 use Rattle.rules.specs.Text.{place, connection}
 use Rattle.text.specs.Filled.{ConnectionsListed}
 use Rattle.text.proofs.ReadRows.{field-broken, field-value}

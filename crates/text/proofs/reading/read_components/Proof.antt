@@ -1,9 +1,8 @@
+-- `read_components` reads components one by one: the invariant is `Filling`. Assumes nothing.
 use borrow.Author.Needs.{needs}
-use mathlib.Core.List.{[]}
-use mathlib.Core.Path.{refl}
-use Prim.Native.Nat.{_-_, _<_, _≤_}
+use Prim.Native.Nat.{_-_, _≤_}
 use native.Mathlib.Omega.{arith}
-use lib.ListN.{length, drop}
+use lib.ListN.{drop}
 use Rattle.rules.specs.Scene.{componentLists}
 use Rattle.rules.specs.Text.{place, component}
 use Rattle.text.specs.Filled.{ComponentsListed}

@@ -1,7 +1,6 @@
-use native.Mathlib.Omega.{arith}
+-- `read_scene` reads both parts, and nothing after them. Assumes nothing.
 use lib.ListN.{drop}
 use Rattle.rules.specs.Bytes.{bytes}
-use Rattle.rules.specs.Scene.{componentLists, connectionLists}
 use Rattle.rules.specs.Text.{place, counted, component, connection}
 use Rattle.text.specs.Filled.{ComponentsListed, ConnectionsListed}
 use Rattle.text.proofs.SceneSteps.{part-broken, part-found, scene-without-components, scene-without-connections, scene-goes-on, scene-whole}

@@ -1,3 +1,4 @@
+-- `store_component` stores each field of a component. Assumes nothing.
 use mathlib.Core.Path.{_≡_, ap, _∙_}
 use Prim.Native.Nat.{suc}
 use lib.ListN.{take, set}

@@ -1,3 +1,4 @@
+-- `store_connection` stores each field of a connection. Assumes nothing.
 use lib.Seq.{take-suc-set}
 use borrow.Author.Needs.{needs}
 use Rattle.text.proofs.reading.store_connection.Statement.{statement}

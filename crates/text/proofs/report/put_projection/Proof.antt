@@ -3,7 +3,7 @@ use mathlib.Core.Path.{_≡_}
 use Prim.Native.Nat.{_-_, _≤_}
 use native.Mathlib.Omega.{arith}
 use borrow.Author.Needs.{needs}
-use Rattle.laws.proofs.StoredEdges.{storedEdge}
+use Rattle.rules.specs.Assess.{storedEdge}
 use Rattle.text.specs.ReportLists.{Put, rows, edgeLists, projectedRow}
 use Rattle.text.proofs.PutSteps.{put-size, rows-none, rows-room, rows-more}
 use Rattle.text.proofs.report.put_projection.Statement.{statement}

@@ -1,7 +1,7 @@
 -- The parts of the report, one after the other. Assumes nothing.
 use mathlib.Core.Path.{sym}
 use lib.Seq.{length-take-le}
-use Rattle.laws.proofs.StoredEdges.{storedEdge}
+use Rattle.rules.specs.Assess.{storedEdge}
 use Rattle.text.specs.ReportLists.{projectedRow, reportBy}
 use Rattle.text.proofs.PutSteps.{room-first, room-next, put-next, put-size}
 use borrow.Author.Needs.{needs}
