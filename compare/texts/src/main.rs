@@ -4,6 +4,8 @@
 //!     texts answer            prints what is wanted for the text on standard input
 //!     texts sample FOLDER     writes the sample that crates/replay replays
 //!
+//! A comparison also fails where the sample that is stored there is not the one made today.
+//!
 //! Round k of a seed is round 0 of the seed k higher, so a failing round is replayed alone.
 use std::io::{Read, Write, stdin, stdout};
 use std::path::Path;
@@ -82,6 +84,7 @@ fn compare((seed, rounds): (u64, u64)) {
     if !missing.is_empty() {
         fail(&format!("TOO LITTLE: {}", missing.join("; ")));
     }
+    sample::stored().unwrap_or_else(|told| fail(&format!("STALE SAMPLE: {told}")));
     println!("no difference");
 }
 

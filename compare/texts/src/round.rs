@@ -19,6 +19,10 @@ const SIZES: [(usize, usize, usize); 4] = [(1, 8, 8), (9, 40, 3), (41, 200, 1), 
 const EACH: usize = 30;
 const SEVERAL: usize = 400;
 
+/// Families of which every shape has texts.
+pub const SHUFFLED: &str = "shuffled connections";
+pub const TOO_LONG: &str = "too long";
+
 /// The round depends on its seed alone.
 pub fn round(seed: u64) -> Vec<Case> {
     let rng = &mut Rng::new(seed);
@@ -55,7 +59,7 @@ pub fn round(seed: u64) -> Vec<Case> {
 fn scenes(rng: &mut Rng, family: &'static str, mut lists: SceneLists) -> Vec<Case> {
     let mut all = Vec::new();
     if written(&lists).len() > LONGEST {
-        all.push(Case::new("too long", written(&lists)));
+        all.push(Case::new(TOO_LONG, written(&lists)));
         small_numbers([&mut lists.ids, &mut lists.sources, &mut lists.sinks]);
         for list in [&mut lists.xs, &mut lists.ys, &mut lists.zs] {
             list.fill(0);
@@ -63,7 +67,7 @@ fn scenes(rng: &mut Rng, family: &'static str, mut lists: SceneLists) -> Vec<Cas
     }
     let shuffled = shuffle_connections(rng, &lists);
     all.push(Case::new(family, written(&lists)));
-    all.push(Case::new("shuffled connections", written(&shuffled)));
+    all.push(Case::new(SHUFFLED, written(&shuffled)));
     all
 }
 
@@ -75,7 +79,7 @@ fn good(rng: &mut Rng) -> Vec<u8> {
 
 /// A scene with faults, its lists of equal lengths again. Half of the time the text is in the form:
 /// a delay word and a flag that are none break it.
-fn faulty(rng: &mut Rng) -> Vec<u8> {
+pub fn faulty(rng: &mut Rng) -> Vec<u8> {
     let n = rng.between(1, 12);
     let mut lists = any_scene(rng, n);
     let mut faults = several_faults(rng);

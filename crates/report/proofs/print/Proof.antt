@@ -1,7 +1,7 @@
--- `print` writes a front of the list. Assumes nothing.
-use borrow.Author.Needs.{needs}
+-- `print` writes a front of the list, and where that fails a line. Assumes nothing.
 use mathlib.Core.Path.{sym}
 use lib.Seq.{length-take-le}
+use borrow.Author.Needs.{needs}
 use Rattle.report.proofs.print.Statement.{statement}
 use Rattle.report.proofs.print.Tie as tie
 
@@ -11,8 +11,25 @@ slice-aggregate-write-all c = sym (length-take-le _ _ (c .before .before .pre))
 write-all-requires : tie.Need-write-all-requires
 write-all-requires c κs = search needs
 
+slice-aggregate-write-all-2 : tie.Need-slice-aggregate-write-all-2
+slice-aggregate-write-all-2 c = search needs
+
+write-all-requires-2 : tie.Need-write-all-requires-2
+write-all-requires-2 c κs = search needs
+
 returns : tie.Need-returns
 returns c = search needs
 
+returns-2 : tie.Need-returns-2
+returns-2 c = search needs
+
 pub print-spec : {M : Type 1} → statement M
-print-spec = tie.close (tie.spec slice-aggregate-write-all write-all-requires returns)
+print-spec =
+    tie.close
+    (tie.spec
+    slice-aggregate-write-all
+    write-all-requires
+    slice-aggregate-write-all-2
+    write-all-requires-2
+    returns
+    returns-2)
