@@ -1,4 +1,6 @@
 // The call that writes lists 0, 1 and 2: timed edges, devices and evidence.
+#![tactic(auto)]
+
 pub mod describe; // describe.rt: the call
 mod edges; // edges.rt: list 0, from the edges over positions
 mod devices; // devices.rt: which components are devices, and list 1

@@ -1,3 +1,5 @@
 // Events as a lent list of records.
+#![tactic(auto)]
+
 pub mod records; // records.rt: the trace call on records
 mod counted; // counted.rt: the trace call on the first entries of long lists

@@ -1,4 +1,6 @@
 // Strongly connected components of a graph whose nodes are the numbers below n.
+#![tactic(auto)]
+
 ghost use Rattle.std.specs.Prelude.{◌≡◌};
 ghost use Rattle.graph.specs.Fits.{SharedMarked, graph_fits};
 

@@ -1,4 +1,6 @@
 // The lengths of number lists: whether those of one record kind differ, and the shortest of an output list's.
+#![tactic(auto)]
+
 ghost use Rattle.std.specs.Prelude.{◌≡◌, min};
 ghost use Rattle.rules.specs.Refusals.{lengths_differ, shortest};
 

@@ -1,4 +1,6 @@
 // Projection: the compressed nodes of a graph, and the projected edges between the others with their paths.
+#![tactic(auto)]
+
 ghost use Rattle.projection.specs.Projecting.{node_lists, projected_lists, work_lists, ProjectionCall};
 
 use crate::fill::fill;

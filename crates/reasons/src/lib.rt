@@ -1,4 +1,6 @@
 // Reasons, Feedback ids, labels, scope and pattern of a scene whose edges are given over the positions of its components.
+#![tactic(auto)]
+
 ghost use Rattle.std.specs.Prelude.{[], length};
 ghost use Rattle.rules.specs.Scene.{component_lists};
 ghost use Rattle.reasons.specs.Rows.{columns};

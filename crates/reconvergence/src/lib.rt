@@ -1,5 +1,7 @@
 // Which nodes of a graph are settled, the smallest and largest sum of the paths to each node, and the nodes where paths
 // of unequal delay meet.
+#![tactic(auto)]
+
 ghost use Rattle.reconvergence.specs.Fits.{ReconvergentDelays};
 
 use crate::fits::reconvergence_fits;

@@ -1,5 +1,7 @@
 // The stored sample replayed. Standard input has texts one after another, each with the report that the Rust has for it: a header of two
 // lengths, the text, the report. Each text is answered anew and held against its report, byte for byte.
+#![tactic(auto)]
+
 
 use text::answer::{REPORT_ROOM, report_text};
 

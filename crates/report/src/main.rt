@@ -1,4 +1,6 @@
 // The program: reads the text of a scene from standard input and prints its report, or the refusal.
+#![tactic(auto)]
+
 ghost use Rattle.std.specs.Prelude.{◌≤◌, length};
 
 use rules::limits::MAX_TEXT;

@@ -101,6 +101,7 @@ module _ {A : Type 0} where
   pub count-in : (f : A → Bool) {x : A} {l : List A} → Memᴰ x l → T (f x) → 0 < count f l
   count-in f {l = y ∷ l} (Memᴰ.head e) t = omega (arith, count_yes f y l (subst (λ z. T (f z)) e t))
   count-in f {l = y ∷ l} (Memᴰ.tail m) t = omega (arith, count-more f y l, count-in f m t)
+  count-in f {l = []} x6 t = elim x6 [ ]
 
   -- some test that x passes counts one entry at most
   pub count-out : (f : A → Bool) (l : List A) → 0 < count f l → (x : A) × Memᴰ x l × T (f x)

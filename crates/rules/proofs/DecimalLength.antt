@@ -16,6 +16,7 @@ digits-length (suc f) zero n h = go (ltb n 10) (lt→ltb n 10 (omega arith))
   where
     go : (b : Bool) → T b → length (cond b (digit n ∷ []) (digits_up_to f (n / 10) ++ (digit (n % 10) ∷ []))) ≤ 1
     go true t = omega arith
+    go false t = elim t [ ]
 digits-length (suc f) (suc k) n h = go (ltb n 10) (digits-length f k (n / 10) ((div-lt_iff_lt-mul (omega arith)).1 (rw (pow-suc 10 (suc k)) at h)))
   where
     go : (b : Bool) → length (digits_up_to f (n / 10)) ≤ suc k → length (cond b (digit n ∷ []) (digits_up_to f (n / 10) ++ (digit (n % 10) ∷ []))) ≤ suc (suc k)

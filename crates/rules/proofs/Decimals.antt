@@ -40,6 +40,8 @@ digits-enough (suc j) (suc k) n g h = go (few-or-many n) (λ a. digits-enough j 
     go : (n < 10) ⊎ (10 ≤ n) → (10 ≤ n → digits_up_to j (n / 10) ≡ digits_up_to k (n / 10)) → digits_up_to (suc j) n ≡ digits_up_to (suc k) n
     go (inl a) below = digits-few j n a ∙ sym (digits-few k n a)
     go (inr a) below = digits-many j n a ∙ ap (λ l. l ++ (digit (n % 10) ∷ [])) (below a) ∙ sym (digits-many k n a)
+digits-enough zero k n g h = elim g [ ]
+digits-enough (suc j) zero n g h = elim h [ ]
 
 -- a number below 10 is a digit; another is that of its tens, and a digit
 pub decimal_digit : (d : ℕ) → d < 10 → decimal d ≡ digit d ∷ []
@@ -64,6 +66,7 @@ module _ (P : ℕ → Type 0) (few : (d : ℕ) → d < 10 → P d) (many : (v d 
       go (inr a) below =
           let parts : 10 * (n / 10) + n % 10 ≡ n = omega arith in
           subst P parts (many (n / 10) (n % 10) (omega arith) (omega arith) (below a))
+  by-digits-below zero n h = elim h [ ]
 
   by_digits : (n : ℕ) → P n
   by_digits n = by-digits-below (suc n) n (omega arith)
@@ -102,6 +105,7 @@ Leads (b ∷ bs) = 49 ≤ b
 
 leads-append : (a b : List ℕ) → Leads a → Leads (a ++ b)
 leads-append (x ∷ a) b h = h
+leads-append [] b h = elim h [ ]
 
 decimal-leads : (n : ℕ) → 1 ≤ n → Leads (decimal n)
 decimal-leads = by_digits (λ n. 1 ≤ n → Leads (decimal n))
@@ -113,6 +117,7 @@ unfolding is_decimal
 leads-form (b ∷ []) h t = and_both (every is_digit (b ∷ [])) true t tt
 leads-form (b ∷ c ∷ bs) h t =
     and_both (every is_digit (b ∷ c ∷ bs)) (not (eqb b 48)) t (not_T (eqb b 48) (λ s. omega (arith, eqb→eq b 48 s)))
+leads-form [] h t = elim h [ ]
 
 -- so it is in its form
 pub decimal-is : (n : ℕ) → T (is_decimal (decimal n))
@@ -149,6 +154,7 @@ value-decimal (b ∷ c ∷ bs) t =
     let lead : b ≡ 48 → ⊥ = λ e. T_not (eqb b 48) (and_right (every is_digit (b ∷ c ∷ bs)) (not (eqb b 48)) t) (eq_test e) in
     let d = digit_value b first in
     decimal-from (0 + (b - 48)) (c ∷ bs) (omega (arith, d.1)) (and_right (is_digit b) (every is_digit (c ∷ bs)) digits) ∙ ap (λ l. l ++ (c ∷ bs)) (decimal-first b first)
+value-decimal [] t = elim t [ ]
 
 -- Numbers of a width
 
@@ -181,6 +187,7 @@ unfolding signed_number is_decimal
 not_negative_lem (b ∷ bs) t =
     let d = digit_value b (number-first b bs t) in
     not_chosen (negative (number_up_to 2147483648 bs)) (not_negative (number_up_to 2147483647 (b ∷ bs))) (eqb b 45) (λ s. omega (arith, eqb→eq b 45 s, d.1))
+not_negative_lem [] t = elim t [ ]
 
 pub signed-read : (z : ℤ) → Signed32 z → signed_number (signed_decimal z) ≡ some z
 unfolding signed_number

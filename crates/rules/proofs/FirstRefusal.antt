@@ -43,6 +43,7 @@ none_each f l h x m t k = h t (flat_in f m k)
 pub stop : (b : Bool) {n p : ℕ} (ts : List Test) → T b → Refused n p ≡ first_refusal (test b n p ∷ ts)
 unfolding first_refusal
 stop true ts h = refl
+stop false {n = n} {p = p} ts h = elim h [ ]
 
 pub more : (t : Test) (ts : List Test) {v : Checked} → (T t.holds → ⊥) → v ≡ first_refusal ts → v ≡ first_refusal (t ∷ ts)
 unfolding first_refusal

@@ -39,6 +39,7 @@ module _ {A : Type 0} (d : A) (bad : A → Bool) (l : List A) where
     where
       some : (b : Bool) → T b → false ≡ not b
       some true t = refl
+      some false t = elim t [ ]
 
   pub each-good : not (any bad l) ≡ true → (k : ℕ) → k < length l → bad (get_or l k d) ≡ false
   each-good e k h = go (bad (get_or l k d)) (any-in bad (at_mem d l k h))

@@ -10,6 +10,7 @@ use Rattle.rules.specs.Lists.{any, keep}
 
 pub or_left : (a b : Bool) → T a → T (a || b)
 or_left true b t = tt
+or_left false b t = elim t [ ]
 
 pub or_right : (a b : Bool) → T b → T (a || b)
 or_right true b t = tt
@@ -21,12 +22,15 @@ or_cases false b t = inr t
 
 pub and_left : (a b : Bool) → T (a && b) → T a
 and_left true b t = tt
+and_left false b t = elim t [ ]
 
 pub and_right : (a b : Bool) → T (a && b) → T b
 and_right true b t = t
+and_right false b t = elim t [ ]
 
 pub and_both : (a b : Bool) → T a → T b → T (a && b)
 and_both true b s t = t
+and_both false b s t = elim s [ ]
 
 -- both tests, where they are known by their values
 pub both_true : (a b : Bool) → a && b ≡ true → (a ≡ true) × (b ≡ true)
@@ -60,6 +64,7 @@ or-none a b g h t = ⊎_elim g h (or_cases a b t)
 module _ {A : Type 0} (x y : A) where
   pub chosen : (b : Bool) → T b → cond b x y ≡ x
   chosen true t = refl
+  chosen false t = elim t [ ]
 
   pub not_chosen : (b : Bool) → (T b → ⊥) → cond b x y ≡ y
   not_chosen true f = absurd (f tt)
@@ -70,6 +75,7 @@ module _ {A : Type 0} (f : A → Bool) where
   unfolding any
   any-in {l = y ∷ l} (Memᴰ.head e) t = or_left (f y) (any f l) (subst (λ z. T (f z)) e t)
   any-in {l = y ∷ l} (Memᴰ.tail m) t = or_right (f y) (any f l) (any-in m t)
+  any-in {l = []} x6 t = elim x6 [ ]
 
   pub any_out : (l : List A) → T (any f l) → (x : A) × Memᴰ x l × T (f x)
   unfolding any
@@ -78,6 +84,7 @@ module _ {A : Type 0} (f : A → Bool) where
       go : (T (any f l) → (x : A) × Memᴰ x l × T (f x)) → T (f y) ⊎ T (any f l) → (x : A) × Memᴰ x (y ∷ l) × T (f x)
       go below (inl s) = (y, Memᴰ.head refl, s)
       go below (inr s) = let r = below s in (r.0, Memᴰ.tail r.1, r.2)
+  any_out [] t = elim t [ ]
 
   pub keep-in : {x : A} {l : List A} → Memᴰ x l → T (f x) → Memᴰ x (keep f l)
   unfolding keep
@@ -85,11 +92,13 @@ module _ {A : Type 0} (f : A → Bool) where
     where
       go : (b : Bool) → T b → Memᴰ x (cond b (y ∷ keep f l) (keep f l))
       go true s = Memᴰ.head e
+      go false s = elim s [ ]
   keep-in {x} {l = y ∷ l} (Memᴰ.tail m) t = go (f y) (keep-in m t)
     where
       go : (b : Bool) → Memᴰ x (keep f l) → Memᴰ x (cond b (y ∷ keep f l) (keep f l))
       go true s = Memᴰ.tail s
       go false s = s
+  keep-in {x = x} {l = []} x6 t = elim x6 [ ]
 
   pub keep_out : {x : A} (l : List A) → Memᴰ x (keep f l) → Memᴰ x l × T (f x)
   unfolding keep
@@ -109,6 +118,7 @@ module _ {A B : Type 0} (f : A → List B) where
   unfolding flat_map
   flat_in {y} {l = z ∷ l} (Memᴰ.head e) n = Memᴰ.append_left (flat_map f l) (subst (λ w. Memᴰ y (f w)) e n)
   flat_in {l = z ∷ l} (Memᴰ.tail m) n = Memᴰ.append_right (f z) (flat_in m n)
+  flat_in {y = y} {l = []} x6 n = elim x6 [ ]
 
   pub flat_out : {y : B} (l : List A) → Memᴰ y (flat_map f l) → (x : A) × Memᴰ x l × Memᴰ y (f x)
   unfolding flat_map

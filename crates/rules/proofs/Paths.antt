@@ -68,6 +68,7 @@ module _ (es : List Edge) where
     where
       go : (b : Bool) → T b → Memᴰ {A = List ℕ} [] (cond b ([] ∷ []) [])
       go true t = Memᴰ.head refl
+      go false t = elim t [ ]
   path→within (suc k) (then {v} {u} m s P) h =
       Memᴰ.append_right (cond (no_incoming es v) ([] ∷ []) []) (flat_in (onward k) (source_in m s) (Memᴰ.map (λ p. u ∷ p) (path→within k P (omega arith))))
 

@@ -23,6 +23,8 @@ EndsListed cs es = (e : Edge) → Memᴰ e es → Memᴰ (source_of e) (map id_o
 only_one : {A : Type 0} (l : List A) (x d : A) → length l ≤ 1 → Memᴰ x l → get_or l 0 d ≡ x
 only_one (y ∷ []) x d h (Memᴰ.head e) = sym e
 only_one (y ∷ z ∷ l) x d h m = absurd (omega arith)
+only_one {A = A} [] x d h m = elim m [ ]
+only_one {A = A} (y ∷ []) x d h (Memᴰ.tail x13) = elim x13 [ ]
 
 module _ (cs : List Component) (distinct : DistinctIds cs) (c : Component) (listed : Memᴰ c cs) where
   -- what is said by an id is said of the component that has it

@@ -73,6 +73,7 @@ module _ {f : ℕ → ℕ → ℕ} (C : Choice f) where
   extreme-good {l = y ∷ []} (Memᴰ.tail m) = absurd (Memᴰ.not-nil m)
   extreme-good {x} {l = y ∷ z ∷ l} (Memᴰ.head e) = subst (Good (f y (extreme f (z ∷ l)))) (sym e) (good_left y (extreme f (z ∷ l)))
   extreme-good {x} {l = y ∷ z ∷ l} (Memᴰ.tail m) = good-trans _ _ _ (good_right y (extreme f (z ∷ l))) (extreme-good m)
+  extreme-good {x = x} {l = []} x3 = elim x3 [ ]
 
   -- each entry of l has one of r that is at least as good
   abbrev pub Under : List ℕ → List ℕ → Type 0

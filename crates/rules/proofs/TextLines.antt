@@ -69,6 +69,7 @@ line-split (b ∷ bs) h = go (eqb line_feed b) (eqb→eq line_feed b) (λ t. lin
         → b ∷ bs ≡ cond c [] (b ∷ line_of bs) ++ (line_feed ∷ cond c bs (after_line bs))
     go true is below t = ap (λ x. x ∷ bs) (sym (is tt))
     go false is below t = ap (λ l. b ∷ l) (below t)
+line-split [] h = elim h [ ]
 
 -- a line that starts with a name
 starts : (name rest : List ℕ) → T (starts_with name (name ++ rest))
@@ -83,6 +84,7 @@ starts-split (n ∷ name) (b ∷ line) t =
     let ih = starts-split name line (and_right (eqb n b) (starts_with name line) t) in
     let e = eqb→eq n b (and_left (eqb n b) (starts_with name line) t) in
     ap (λ x. x ∷ line) (sym e) ∙ ap (λ l. n ∷ l) ih
+starts-split (n ∷ name) [] t = elim t [ ]
 
 -- what is broken was not read
 pub not-read : {A : Type 0} {l : ℕ} {x : A} {q : Place} → broken l ≡ read x q → ⊥

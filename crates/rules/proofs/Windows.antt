@@ -94,7 +94,8 @@ once-split f v (w ∷ l) r h = go (order w v)
     go (inl g) =
         let e : v ≡ w = omega (arith, r.0 w (Memᴰ.head refl)) in
         let n = keep (is_not w) (once l) in
-        rw (e, keep-no (is_not w) w n (λ t. T_not (eqb w w) t (eqb_refl w)), keep_all (is_not w) n (λ y m. (keep_out (is_not w) (once l) m).1))
+        let q : keep (is_not w) (w ∷ n) ≡ n = keep-no (is_not w) w n (λ t. T_not (eqb w w) t (eqb_refl w)) ∙ keep_all (is_not w) n (λ y m. (keep_out (is_not w) (once l) m).1) in
+        subst (λ u. flat_map f (once (w ∷ l)) ≡ f u ++ flat_map f (keep (is_not u) (once (w ∷ l)))) (sym e) (ap (λ r. f w ++ flat_map f r) (sym q))
     go (inr g) = rw (h absent, keep_all (is_not v) (once (w ∷ l)) (λ y m. not_T (eqb y v) (λ t. absent (Memᴰ.cast (sym (eqb→eq y v t)) (once-mem (w ∷ l) m)))))
       where
         absent : Memᴰ v (w ∷ l) → ⊥
@@ -132,6 +133,7 @@ module _ (unit : TraceTimeUnit) where
       go : (p : Bool) (ps : List Pulse) → cond p (pulse_of unit a b c ∷ ps) ps ≡ cond p (pulse_of unit a b c ∷ []) [] ++ ps
       go true ps = refl
       go false ps = refl
+  three a b c es false t = elim t [ ]
 
   -- the pulses of the first event's component: its window's, and those without it
   pulses-first : (a : Event) (es : List Event) → Rising (components_of (a ∷ es)) → pulses_in unit (a ∷ keep (of_component a.component) es) ≡ window a es ++ pulses_of es a.component

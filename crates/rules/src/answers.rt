@@ -1,20 +1,20 @@
 // What the checks and the scene calls answer.
 
 // What the checks find: nothing to refuse, or the number of a refusal and its place.
-#[derive(Drop)]
+#[derive(Clone, Copy)]
 pub enum Checked {
     Accepted,
     Refused { number: u32, place: u64 },
 }
 
 // How many entries of list 4 are used, and how many Feedback reasons there are: one, or none.
-#[derive(Drop)]
+#[derive(Clone, Copy)]
 pub enum FeedbackAnswer {
     Refused { number: u32, place: u64 },
     Listed { feedback: u64, reasons: u64 },
 }
 
-#[derive(Drop)]
+#[derive(Clone, Copy)]
 pub enum TemporalScope {
     SteadyStateSafe,
     TimingSensitive,
@@ -22,7 +22,7 @@ pub enum TemporalScope {
 }
 
 // The components of a candidate's loop are those of list 4.
-#[derive(Drop)]
+#[derive(Clone, Copy)]
 pub enum BehaviorPattern {
     DelayedPath,
     ClockCandidate,
@@ -31,7 +31,7 @@ pub enum BehaviorPattern {
 }
 
 // How many entries of lists 0, 1 and 2 are used.
-#[derive(Drop)]
+#[derive(Clone, Copy)]
 pub enum Description {
     Refused {
         number: u32,
@@ -46,7 +46,7 @@ pub enum Description {
 
 // How many entries of lists 3, 4, 6 and 7 are used, and of list 5 how many are 1 and 0; list 8 is used for
 // every component.
-#[derive(Drop)]
+#[derive(Clone, Copy)]
 pub struct Assessment {
     pub scope: TemporalScope,
     pub pattern: BehaviorPattern,
@@ -59,7 +59,7 @@ pub struct Assessment {
     pub path_ids: u64,
 }
 
-#[derive(Drop)]
+#[derive(Clone, Copy)]
 pub enum SceneAnswer {
     Refused { number: u32, place: u64 },
     Assessed(Assessment),

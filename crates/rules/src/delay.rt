@@ -2,13 +2,14 @@
 ghost use Rattle.std.specs.Prelude.{◌≡◌};
 ghost use Rattle.rules.specs.Delay.{saturating_add, add_range, zero_range};
 
-#[derive(Drop)]
+#[derive(Clone, Copy)]
 pub struct DelayRange {
     pub minimum_redstone_ticks: u32,
     pub maximum_redstone_ticks: u32,
 }
 
 // The sum of two numbers, or the largest number of 32 bits where it would be above that.
+#[tactic(auto, unfolding(crate::specs::Delay::saturating_add))]
 pub fn saturating_add(a: u32, b: u32) -> u32
     ensures { result ≡ saturating_add a b }
 {

@@ -1,7 +1,7 @@
 // What a row of the kind table says of a block kind, and what an edge takes from its source.
 use crate::delay::DelayRange;
 
-#[derive(Drop)]
+#[derive(Clone, Copy)]
 pub enum TemporalNodeKind {
     Source,
     Wire,
@@ -12,7 +12,7 @@ pub enum TemporalNodeKind {
     Conductor,
 }
 
-#[derive(Drop)]
+#[derive(Clone, Copy)]
 pub enum EdgeBehavior {
     Immediate,
     DelayedForward,
@@ -22,7 +22,7 @@ pub enum EdgeBehavior {
     OrderSensitive,
 }
 
-#[derive(Drop)]
+#[derive(Clone, Copy)]
 pub enum TemporalSemantics {
     DelayedForward,
     DelayedInvert,
@@ -31,20 +31,20 @@ pub enum TemporalSemantics {
 }
 
 // What a kind means as a device, if it is one.
-#[derive(Drop)]
+#[derive(Clone, Copy)]
 pub enum DeviceMeaning {
     NoDevice,
     Device(TemporalSemantics),
 }
 
 // The delay of a kind: fixed, or the component's own with a number for an absent one.
-#[derive(Drop)]
+#[derive(Clone, Copy)]
 pub enum KindDelay {
     Fixed(u8),
     Own(u8),
 }
 
-#[derive(Drop)]
+#[derive(Clone, Copy)]
 pub struct KindRow {
     pub node: TemporalNodeKind,
     pub delay: KindDelay,
@@ -52,7 +52,7 @@ pub struct KindRow {
     pub meaning: DeviceMeaning,
 }
 
-#[derive(Drop)]
+#[derive(Clone, Copy)]
 pub struct EdgeTiming {
     pub delay: DelayRange,
     pub behavior: EdgeBehavior,

@@ -1,5 +1,7 @@
 // The plain types of the timing overlay. What every call promises is written in specs/; specs/Lib.antt lists its
 // files in reading order.
+#![tactic(auto)]
+
 pub mod delay; // delay.rt: DelayRange with its zero and its addition
 pub mod kinds; // kinds.rt: what a row of the kind table says
 pub mod limits; // limits.rt: the sizes that scenes, traces and records may have

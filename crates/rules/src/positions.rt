@@ -1,5 +1,5 @@
 // What a search for a key answers: the position that has it, or that there is none.
-#[derive(Drop)]
+#[derive(Clone, Copy)]
 pub enum Found {
     At(usize),
     Missing,

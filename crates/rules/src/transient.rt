@@ -1,18 +1,18 @@
 // Pulses and verdicts.
 
-#[derive(Drop)]
+#[derive(Clone, Copy)]
 pub enum PulsePolarity {
     High,
     Low,
 }
 
-#[derive(Drop)]
+#[derive(Clone, Copy)]
 pub enum TraceTimeUnit {
     RedstoneTick,
     GameTick,
 }
 
-#[derive(Drop)]
+#[derive(Clone, Copy)]
 pub enum TransientVerdict {
     PulseObserved,
     TransientDeviation,
@@ -22,7 +22,7 @@ pub enum TransientVerdict {
 }
 
 // What a contract says of a signal.
-#[derive(Drop)]
+#[derive(Clone, Copy)]
 pub enum SignalIntent {
     SteadyStateOnly,
     Stable {
@@ -42,21 +42,21 @@ pub enum SignalIntent {
 }
 
 // The intent of a component's contract, if it has one.
-#[derive(Drop)]
+#[derive(Clone, Copy)]
 pub enum DesignIntent {
     NotRegistered,
     Registered(SignalIntent),
 }
 
 // A verdict with the code of its rationale.
-#[derive(Drop)]
+#[derive(Clone, Copy)]
 pub struct Judgement {
     pub verdict: TransientVerdict,
     pub rationale: u8,
 }
 
 // How many findings were written, and how many contracts were given.
-#[derive(Drop)]
+#[derive(Clone, Copy)]
 pub enum TransientAnswer {
     Refused {
         number: u32,
@@ -69,7 +69,7 @@ pub enum TransientAnswer {
 }
 
 // The answer with the tallies of this trace; all are 0 under a refusal.
-#[derive(Drop)]
+#[derive(Clone, Copy)]
 pub struct TransientAssessment {
     pub answer: TransientAnswer,
     pub tallies: [u64; 5],

@@ -1,4 +1,6 @@
 // The scene: its checks, its positions and what is said of it.
+#![tactic(auto)]
+
 pub mod check; // check.rt: the checks of a scene
 pub mod feedback; // feedback.rt: the call that writes list 4 alone
 pub mod positions; // positions.rt: the positions of an accepted scene, for calls over them

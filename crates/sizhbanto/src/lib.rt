@@ -1,5 +1,7 @@
 // The calls for C, in one archive. A list is a pointer and the number of its entries, and an answer is its numbers. No
 // list that is written may overlap another. A call keeps nothing after it returns.
+#![tactic(auto)]
+
 pub mod checks; // checks.rt: the checks of a scene, and list 4 alone
 pub mod description; // description.rt: lists 0, 1 and 2
 pub mod assessment; // assessment.rt: lists 3 to 8

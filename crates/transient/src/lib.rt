@@ -1,4 +1,6 @@
 // Recorded pulses and what is judged of them.
+#![tactic(auto)]
+
 pub mod trace; // trace.rt: the call that judges a trace
 mod check; // check.rt: the tests of a trace
 mod rows; // rows.rt: the tests of events and contracts, one by one
