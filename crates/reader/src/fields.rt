@@ -7,13 +7,13 @@ use crate::lines::{NamedLine, named_line};
 use crate::numbers::{NumberRead, SignedRead, delay_word, number_up_to, signed_number};
 
 // A value and the place after its line, or that the line breaks the form.
-#[derive(Drop)]
+#[derive(Clone, Copy)]
 pub enum FieldRead {
     Broken,
     Value { value: u64, next: usize },
 }
 
-#[derive(Drop)]
+#[derive(Clone, Copy)]
 pub enum SignedFieldRead {
     Broken,
     Value { value: i32, next: usize },

@@ -4,7 +4,7 @@ ghost use Rattle.rules.specs.Text.{starts_with};
 ghost use Rattle.reader.specs.Lines.{LineEnd, NamedLineAt};
 
 // The line at a place: where its value starts and where the line ends, or that it is missing or has another name.
-#[derive(Drop)]
+#[derive(Clone, Copy)]
 pub enum NamedLine {
     Missing,
     From { start: usize, end: usize },

@@ -7,13 +7,13 @@ ghost use Rattle.reader.specs.Readings.{number_option, signed_option};
 use crate::lines::starts_with;
 
 // A number, or that the bytes are not in its form.
-#[derive(Drop)]
+#[derive(Clone, Copy)]
 pub enum NumberRead {
     NotInForm,
     Number(u64),
 }
 
-#[derive(Drop)]
+#[derive(Clone, Copy)]
 pub enum SignedRead {
     NotInForm,
     Signed(i32),

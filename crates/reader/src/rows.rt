@@ -6,7 +6,7 @@ use crate::fields::{FieldRead, SignedFieldRead, delay_field, number_field, signe
 // The largest of 64 bits, which counts and ids have.
 const LARGEST: u64 = u64::MAX;
 
-#[derive(Drop)]
+#[derive(Clone, Copy)]
 pub struct ComponentRow {
     pub id: u64,
     pub kind: u8,
@@ -17,7 +17,7 @@ pub struct ComponentRow {
     pub z: i32,
 }
 
-#[derive(Drop)]
+#[derive(Clone, Copy)]
 pub struct ConnectionRow {
     pub source: u64,
     pub sink: u64,
@@ -25,13 +25,13 @@ pub struct ConnectionRow {
 }
 
 // A row and the place after it, or how many of its lines were read before the one that breaks the form.
-#[derive(Drop)]
+#[derive(Clone, Copy)]
 pub enum ComponentRead {
     Broken { done: u64 },
     Read { row: ComponentRow, next: usize },
 }
 
-#[derive(Drop)]
+#[derive(Clone, Copy)]
 pub enum ConnectionRead {
     Broken { done: u64 },
     Read { row: ConnectionRow, next: usize },

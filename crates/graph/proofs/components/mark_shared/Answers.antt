@@ -1,0 +1,34 @@
+-- `mark_shared` marks the nodes that share their group. Assumes nothing.
+use Prim.Native.Nat.{◌-◌}
+use mathlib.Core.Logic.{⊎_elim}
+use mathlib.Core.Path.{◌∙◌}
+use native.Mathlib.Omega.{arith}
+use borrow.Author.Rules.{rules}
+use lib.ListN.{length, length-set}
+use Rattle.graph.proofs.SharedMarks.{Marking, marking-none, marking-root, marking-place, marking-both, marking-end}
+use Rattle.graph.proofs.components.mark_shared.Goals as goal
+
+pub loop-u-init : goal.loop-u-init
+loop-u-init c = rw c.clear.ensures (marking-none _ _ c.requires.size)
+
+pub bounds-marks-u : goal.bounds-marks-u
+bounds-marks-u c = omega (arith, c.loop-u.invariant.size)
+
+pub bounds-marks-root : goal.bounds-marks-root
+bounds-marks-root c = simp length-set (omega (arith, c.loop-u.invariant.size, marking-place _ _ _ _ c.requires c.loop-u.invariant c.loop-u-test.true c.if-root-u.true))
+
+pub loop-u-preserved : goal.loop-u-preserved
+loop-u-preserved c =
+    let p = c.requires in
+    let l = c.loop-u in
+    let more = c.loop-u-test.true in
+    ⊎_elim
+    (λ w. rw w.1 (marking-both _ _ _ _ p l.invariant more w.0.taken))
+    (λ w. rw w.1 (marking-root _ _ _ _ p l.invariant w.0.left))
+    c.if-root-u.branch
+
+pub shape_of-marks : goal.shape_of-marks
+shape_of-marks c = c.loop-u.invariant.size ∙ c.requires.size
+
+pub returns : goal.returns
+returns c = marking-end _ _ _ _ c.requires c.loop-u.invariant c.loop-u-test.false

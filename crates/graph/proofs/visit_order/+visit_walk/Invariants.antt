@@ -1,0 +1,24 @@
+-- `visit` and `walk` visit nodes depth-first. The measure is twice the number of nodes not seen, and one more for a walk. Assumes nothing.
+use Prim.Native.Nat.{◌+◌, ◌-◌, ◌*◌}
+use mathlib.Core.Logic.{⊎_elim}
+use mathlib.Core.Path.{refl, ◌∙◌}
+use native.Mathlib.Omega.{arith}
+use borrow.Author.Rules.{rules}
+use lib.ListN.{length, length-set}
+use Rattle.graph.specs.Visits.{unseen}
+use Rattle.graph.proofs.Visits.{below-t, dfs-length}
+use Rattle.graph.proofs.OrderSteps.{visit-old, in-marks, fewer, marked, place, visit-new, no_more, Walking, walking-none, walking-ready, walking-more, walked}
+use Prim.Native.Nat.{ℕ, ◌<◌}
+use Rattle.graph.proofs.visit_order.+visit_walk.Given as goal
+
+abbrev pub decreases-visit : goal.decreases-visit
+decreases-visit l = 2 * unseen l.marks.now
+
+abbrev pub decreases-walk : goal.decreases-walk
+decreases-walk l = 2 * unseen l.marks.now + 1
+
+abbrev pub invariant-walk-loop-e : goal.invariant-walk-loop-e
+invariant-walk-loop-e l = Walking l.head l.next l.sinks l.initial.marks l.initial.order l.count l.first l.marks l.order l.done l.e
+
+abbrev pub decreases-walk-loop-e : goal.decreases-walk-loop-e
+decreases-walk-loop-e l = length l.next - l.e

@@ -1,0 +1,6 @@
+use Rattle.tables.proofs.Table.{timing-of-row}
+use borrow.Author.Rules.{rules}
+use Rattle.tables.proofs.kinds.edge_timing.Goals as goal
+
+pub returns : goal.returns
+returns c = timing-of-row _ _ _ _ c.kind_row-row.ensures c.delay_by-ticks.ensures
