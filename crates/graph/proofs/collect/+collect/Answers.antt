@@ -9,6 +9,7 @@ use Rattle.graph.proofs.Visits.{below-t}
 use Rattle.graph.proofs.GroupSteps.{Gathering, gather_none, kept-marks, kept-groups, fewer, open-again, gather-old, gather-new, gathered}
 use Prim.Native.Nat.{ℕ, ◌<◌}
 use Rattle.graph.proofs.collect.+collect.Goals as goal
+use Rattle.graph.proofs.collect.+collect.Goals.{then-marks-v-eq0, else-marks-v-eq0}
 
 pub bounds-marks-u : goal.bounds-marks-u
 bounds-marks-u t c = let p = c.requires in omega (arith, p.0.linked.nodes, p.1)
@@ -51,10 +52,10 @@ loop-e-preserved t c =
     let p = c.requires in
     let l = c.loop-e in
     let more = c.loop-e-test.true in
-    ⊎_elim
-    (λ w. rw (w.8, w.9) (gather-new p.0 a.root a.u p.1 p.2 _ l.e l.invariant more w.3.ensures))
-    (λ w. rw (w.1, w.2) (gather-old p.0 a.root a.u p.1 p.2 _ l.e l.invariant more w.0.left))
-    c.if-marks-v-eq0.branch
+    elim c.if-marks-v-eq0.branch [
+      then-marks-v-eq0 w ↦ rw (w.marks-is, w.group-is) (gather-new p.0 a.root a.u p.1 p.2 _ l.e l.invariant more w.collect.ensures)
+    | else-marks-v-eq0 w ↦ rw (w.marks-is, w.group-is) (gather-old p.0 a.root a.u p.1 p.2 _ l.e l.invariant more w.if-marks-v-eq0.false)
+    ]
 
 pub bounds-group-u : goal.bounds-group-u
 bounds-group-u t c =

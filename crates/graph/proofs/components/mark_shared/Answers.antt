@@ -7,6 +7,7 @@ use borrow.Author.Rules.{rules}
 use lib.ListN.{length, length-set}
 use Rattle.graph.proofs.SharedMarks.{Marking, marking-none, marking-root, marking-place, marking-both, marking-end}
 use Rattle.graph.proofs.components.mark_shared.Goals as goal
+use Rattle.graph.proofs.components.mark_shared.Goals.{then-root-u, else-root-u}
 
 pub loop-u-init : goal.loop-u-init
 loop-u-init c = rw c.clear.ensures (marking-none _ _ c.requires.size)
@@ -22,10 +23,10 @@ loop-u-preserved c =
     let p = c.requires in
     let l = c.loop-u in
     let more = c.loop-u-test.true in
-    ⊎_elim
-    (λ w. rw w.1 (marking-both _ _ _ _ p l.invariant more w.0.taken))
-    (λ w. rw w.1 (marking-root _ _ _ _ p l.invariant w.0.left))
-    c.if-root-u.branch
+    elim c.if-root-u.branch [
+      then-root-u w ↦ rw w.marks-is (marking-both _ _ _ _ p l.invariant more w.if-root-u.true)
+    | else-root-u w ↦ rw w.marks-is (marking-root _ _ _ _ p l.invariant w.if-root-u.false)
+    ]
 
 pub shape_of-marks : goal.shape_of-marks
 shape_of-marks c = c.loop-u.invariant.size ∙ c.requires.size

@@ -10,6 +10,7 @@ use Rattle.graph.proofs.Visits.{below-t, dfs-length}
 use Rattle.graph.proofs.OrderSteps.{visit-old, in-marks, fewer, marked, place, visit-new, no_more, Walking, walking-none, walking-ready, walking-more, walked}
 use Prim.Native.Nat.{ℕ, ◌<◌}
 use Rattle.graph.proofs.visit_order.+visit_walk.Goals as goal
+use Rattle.graph.proofs.visit_order.+visit_walk.Goals.{walk-then-marks-v-eq0, walk-else-marks-v-eq0}
 
 pub visit-bounds-marks-u : goal.visit-bounds-marks-u
 visit-bounds-marks-u t c = let p = c.requires in omega (arith, p.0.linked.nodes, p.1)
@@ -51,7 +52,7 @@ visit-overflow_add-result t c =
     omega (arith, place p.0 a.u p.1 c.if-marks-u-ne0.false w.ensures, w.auto.order)
 
 pub visit-returns-then-marks-u-ne0 : goal.visit-returns-then-marks-u-ne0
-visit-returns-then-marks-u-ne0 t c = visit-old c.decreases c.args.u c.if-marks-u-ne0.true
+visit-returns-then-marks-u-ne0 t c = visit-old c.requires.0 c.args.u c.if-marks-u-ne0.true
 
 pub visit-shape_of-marks : goal.visit-shape_of-marks
 visit-shape_of-marks t c =
@@ -102,10 +103,10 @@ walk-loop-e-preserved t c =
     let first = c.args.first in
     let l = c.loop-e in
     let more = c.loop-e-test.true in
-    ⊎_elim
-    (λ w. rw (w.8, w.9, w.10) (walking-more p first l.e l.invariant more w.3.ensures w.3.kept.1.1.1.1.0))
-    (λ w. rw (w.1, w.2, w.3) (walking-more p first l.e l.invariant more (visit-old (walking-ready p first l.e l.invariant) _ w.0.left) refl))
-    c.if-marks-v-eq0.branch
+    elim c.if-marks-v-eq0.branch [
+      walk-then-marks-v-eq0 w ↦ rw (w.marks-is, w.order-is, w.done-is) (walking-more p first l.e l.invariant more w.visit-done.ensures w.visit-done.auto.order)
+    | walk-else-marks-v-eq0 w ↦ rw (w.marks-is, w.order-is, w.done-is) (walking-more p first l.e l.invariant more (visit-old (walking-ready p first l.e l.invariant) _ w.if-marks-v-eq0.false) refl)
+    ]
 
 pub walk-shape_of-marks : goal.walk-shape_of-marks
 walk-shape_of-marks t c = dfs-length c.loop-e.invariant.visited.dfs
