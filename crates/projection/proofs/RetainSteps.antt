@@ -115,7 +115,7 @@ module _ (sources sinks compressible order marks head next incoming firsts : Lis
         unfolding firsts_by
         firsts-are = flat-same (linked head' next') (leaving sources) (keep (λ v. not (through marks' v)) order) (λ v m.
             let i = mem-at 0 (keep_out (λ v. not (through marks' v)) order m).0 in
-            index.lists v (omega (arith, R.Order-below i.0 i.1, i.2, R.heads, heads)))
+            index.lists v (omega (arith, R.order_below i.0 i.1, i.2, R.heads, heads)))
 
         few : length (firsts_by (leaving sources) marks' order) ≤ length sources
         unfolding firsts_by
@@ -131,7 +131,7 @@ module _ (sources sinks compressible order marks head next incoming firsts : Lis
         listable = record {
           rises = index.rises;
           heads = omega (arith, marks-length sources sinks compressible marks' marks-are, R.heads, heads);
-          nodes = λ k h. omega (arith, marks-length sources sinks compressible marks' marks-are, R.Order-below k h);
+          nodes = λ k h. omega (arith, marks-length sources sinks compressible marks' marks-are, R.order_below k h);
           room = omega (arith, ap length firsts-are, few, R.room);
         }
 

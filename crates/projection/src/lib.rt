@@ -16,7 +16,7 @@ mod walk; // walk.rt: one chain
 mod fill; // fill.rt: a projected edge and its path for each chain
 
 // Whether the lists fit, and how many nodes are retained, how many edges projected and how many ids in their paths.
-#[derive(Drop)]
+#[derive(Clone, Copy)]
 pub struct Projected {
     pub fits: bool,
     pub retained: usize,

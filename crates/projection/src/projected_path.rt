@@ -5,7 +5,7 @@ ghost use Rattle.projection.specs.PathPart.{path_part};
 
 // A part of list 7.
 #[repr(C)]
-#[derive(Drop)]
+#[derive(Clone, Copy)]
 pub struct PathPart {
     pub start: usize,
     pub length: usize,

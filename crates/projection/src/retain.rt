@@ -6,7 +6,7 @@ use crate::marks::{count_ends, mark_nodes};
 use graph::adjacency::index_edges;
 
 // How many nodes are retained, and how many edges lead out of them.
-#[derive(Drop)]
+#[derive(Clone, Copy)]
 pub(crate) struct Retained {
     pub nodes: usize,
     pub edges: usize,

@@ -6,7 +6,7 @@ ghost use Rattle.projection.specs.Walking.{net, edge_at, entry_of, Walkable, Fir
 use rules::delay::DelayRange;
 
 // Where a chain ends, the place after its path, and its delay and inversion.
-#[derive(Drop)]
+#[derive(Clone, Copy)]
 pub(crate) struct Walked {
     pub sink: usize,
     pub end: usize,

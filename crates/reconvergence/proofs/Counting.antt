@@ -21,6 +21,7 @@ one b = cond b 1 0
 
 is : {b : Bool} → T b → b ≡ true
 is {b = true} t = refl
+is {b = false} t = elim t [ ]
 
 holds : {b : Bool} → b ≡ true → T b
 holds e = subst T (sym e) tt

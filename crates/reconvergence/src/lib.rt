@@ -15,7 +15,7 @@ mod answers; // answers.rt: marks and positions from the lists at the end
 
 // Whether the lists fit, and how many nodes are listed.
 #[repr(C)]
-#[derive(Drop)]
+#[derive(Clone, Copy)]
 pub struct Reconverged {
     pub fits: bool,
     pub unequal: usize,

@@ -31,9 +31,8 @@ slice_bounds-number_up_to-end c =
 pub returns-in_default-number_up_to : goal.returns-in_default-number_up_to
 returns-in_default-number_up_to c =
     let a = c.args in
-    let s = c.start-1.given.0 in
     let line = subst (NamedLineAt a.text.now a.at a.name.now) c.in-From.is c.named_line.ensures in
-    number-none a.text.now a.at a.name.now (number_up_to a.most) s.0 s.1.0 line (ap number_option (sym c.in_default-number_up_to.is) ∙ c.number_up_to.ensures)
+    number-none a.text.now a.at a.name.now (number_up_to a.most) c.in-From.start c.in-From.end line (ap number_option (sym c.in_default-number_up_to.is) ∙ c.number_up_to.ensures)
 
 pub overflow_add-next : goal.overflow_add-next
 overflow_add-next c =
@@ -43,6 +42,5 @@ overflow_add-next c =
 pub returns : goal.returns
 returns c =
     let a = c.args in
-    let s = c.start-1.given.0 in
     let line = subst (NamedLineAt a.text.now a.at a.name.now) c.in-From.is c.named_line.ensures in
-    number-some a.text.now a.at a.name.now (number_up_to a.most) s.0 s.1.0 line c.in-Number.value (ap number_option (sym c.in-Number.is) ∙ c.number_up_to.ensures)
+    number-some a.text.now a.at a.name.now (number_up_to a.most) c.in-From.start c.in-From.end line c.in-Number.value (ap number_option (sym c.in-Number.is) ∙ c.number_up_to.ensures)

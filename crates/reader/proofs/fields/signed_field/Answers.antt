@@ -30,9 +30,8 @@ slice_bounds-signed_number-end c =
 pub returns-in_default-signed_number : goal.returns-in_default-signed_number
 returns-in_default-signed_number c =
     let a = c.args in
-    let s = c.start-1.given.0 in
     let line = subst (NamedLineAt a.text.now a.at a.name.now) c.in-From.is c.named_line.ensures in
-    signed-none a.text.now a.at a.name.now s.0 s.1.0 line (ap signed_option (sym c.in_default-signed_number.is) ∙ c.signed_number.ensures)
+    signed-none a.text.now a.at a.name.now c.in-From.start c.in-From.end line (ap signed_option (sym c.in_default-signed_number.is) ∙ c.signed_number.ensures)
 
 pub overflow_add-next : goal.overflow_add-next
 overflow_add-next c =
@@ -42,6 +41,5 @@ overflow_add-next c =
 pub returns : goal.returns
 returns c =
     let a = c.args in
-    let s = c.start-1.given.0 in
     let line = subst (NamedLineAt a.text.now a.at a.name.now) c.in-From.is c.named_line.ensures in
-    signed-some a.text.now a.at a.name.now s.0 s.1.0 line c.in-Signed.value (search rules) (ap signed_option (sym c.in-Signed.is) ∙ c.signed_number.ensures)
+    signed-some a.text.now a.at a.name.now c.in-From.start c.in-From.end line c.in-Signed.value (search rules) (ap signed_option (sym c.in-Signed.is) ∙ c.signed_number.ensures)

@@ -11,7 +11,7 @@ pub returns-in-Stable : goal.returns-in-Stable
 returns-in-Stable c = stable-verdict c.args.polarity c.args.unit c.args.width c.in-Stable.is c.stable_rationale.ensures
 
 pub returns-in-IntentionalPulse : goal.returns-in-IntentionalPulse
-returns-in-IntentionalPulse c = pulse-verdict c.args.polarity c.args.unit c.args.width c.in-IntentionalPulse.is c.fits2.ensures c.classify_intentional.ensures
+returns-in-IntentionalPulse c = pulse-verdict c.args.polarity c.args.unit c.args.width c.in-IntentionalPulse.is c.fits.ensures c.classify_intentional.ensures
 
 pub returns-in-MaximumPulseWidth : goal.returns-in-MaximumPulseWidth
-returns-in-MaximumPulseWidth c = maximum-verdict c.args.polarity c.args.unit c.args.width c.in-MaximumPulseWidth.is c.fits3.ensures c.classify_tolerated.ensures
+returns-in-MaximumPulseWidth c = maximum-verdict c.args.polarity c.args.unit c.args.width c.in-MaximumPulseWidth.is c.fits-in-MaximumPulseWidth.ensures c.classify_tolerated.ensures

@@ -1,0 +1,17 @@
+-- `each_at_least` tests the lengths one by one. Assumes nothing.
+use Prim.Native.Nat.{ℕ, ◌-◌, ◌<◌, ◌≤◌}
+use native.Mathlib.Omega.{arith}
+use borrow.Author.Count.{below_more}
+use borrow.Author.Rules.{rules}
+use lib.ListN.{length, get_or}
+use Rattle.projection.proofs.FitSteps.{at-least-all, at-least-not}
+use Rattle.projection.proofs.fits.each_at_least.Goals as goal
+
+pub returns-then-lengths-i : goal.returns-then-lengths-i
+returns-then-lengths-i c = at-least-not _ _ _ c.loop-i-test.true c.if-lengths-i.true
+
+pub loop-i-preserved : goal.loop-i-preserved
+loop-i-preserved c = (omega arith, below_more _ _ c.loop-i.invariant.1 c.if-lengths-i.false)
+
+pub returns : goal.returns
+returns c = at-least-all _ _ (λ k h. c.loop-i.invariant.1 k (omega arith))
