@@ -24,6 +24,7 @@ fitting-ids {r} p t =
 
 fitted-true : (b : Bool) → T b → b ≡ true
 fitted-true true t = refl
+fitted-true mathlib.Core.Bool.false t = elim t [ ]
 
 module _ {l : ComponentLists} {starts stops order ks cs bs ls hs feedback settles lows highs ks' cs' bs' ls' hs' feedback' settles' lows' highs' : List ℕ} {r : ReasonsAssessed} where
   pub fitting-reasons : ReasonsCall l starts stops order ks cs bs ls hs feedback settles lows highs ks' cs' bs' ls' hs' feedback' settles' lows' highs' r

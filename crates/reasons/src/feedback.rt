@@ -18,7 +18,7 @@ use rules::limits::{MAX_COMPONENTS, MAX_CONNECTIONS};
 use tables::kinds::kind_row;
 
 // Whether the lists fit, and how many ids are listed.
-#[derive(Drop)]
+#[derive(Clone, Copy)]
 pub struct FeedbackListed {
     pub fits: bool,
     pub listed: usize,
@@ -83,7 +83,7 @@ fn list_within(
 }
 
 // How many ids are listed, and the pattern.
-#[derive(Drop)]
+#[derive(Clone, Copy)]
 pub(crate) struct FeedbackFound {
     pub listed: usize,
     pub pattern: BehaviorPattern,

@@ -22,7 +22,7 @@ mod rows; // rows.rt: the reasons of list 3
 mod scope; // scope.rt: the scope from the counts of reasons
 
 // Whether the lists fit; how many entries of lists 3 and 4 are used; scope and pattern.
-#[derive(Drop)]
+#[derive(Clone, Copy)]
 pub struct ReasonsAssessed {
     pub fits: bool,
     pub reasons: usize,

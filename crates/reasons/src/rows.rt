@@ -63,7 +63,7 @@ pub(crate) fn list_temporal_reasons(
 }
 
 // Whether a component has a reason of its own, and the reason's kind and block.
-#[derive(Drop)]
+#[derive(Clone, Copy)]
 struct OwnReason {
     stands: bool,
     kind: u8,

@@ -1,0 +1,7 @@
+-- Assumes nothing.
+use mathlib.Core.Path.{refl}
+use borrow.Author.Rules.{rules}
+use Rattle.reasons.proofs.feedback.list_id.Goals as goal
+
+pub returns-then-listed : goal.returns-then-listed
+returns-then-listed c = rw c.if-listed.true (refl, refl)

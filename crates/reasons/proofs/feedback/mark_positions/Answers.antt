@@ -1,0 +1,8 @@
+-- Assumes nothing.
+use lib.ListN.{length}
+use Rattle.reasons.proofs.ListingSteps.{marks-shared}
+use borrow.Author.Rules.{rules}
+use Rattle.reasons.proofs.feedback.mark_positions.Goals as goal
+
+pub returns : goal.returns
+returns c = marks-shared c.args.starts.now c.args.stops.now (length c.args.marks.now) c.requires _ _ _ c.mark_shared_components.ensures.answer c.mark_shared_components.ensures.marked
