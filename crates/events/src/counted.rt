@@ -10,7 +10,7 @@ use rules::transient::{TransientAnswer, TransientAssessment};
 use transient::trace::assess_transients;
 
 // So many events, in the first entries of the lists; the entries say nothing if a trace may not have so many.
-#[derive(Drop)]
+#[derive(Clone, Copy)]
 pub(crate) struct CountedEvents {
     pub count: usize,
     pub ticks: [u64; MAX_EVENTS],

@@ -10,7 +10,7 @@ use rules::transient::TransientAssessment;
 
 // tick, component, and powered: 0 or 1. Another value is refused, as in the number list.
 #[repr(C)]
-#[derive(Drop)]
+#[derive(Clone, Copy)]
 pub struct BehaviorEvent {
     pub tick: u64,
     pub component: u64,

@@ -16,7 +16,7 @@ const ENOUGH_TRACES: u64 = 4503599627370496;
 
 // Traces held, findings held, and a tally for each verdict by its number.
 #[repr(C)]
-#[derive(Drop)]
+#[derive(Clone, Copy)]
 pub struct TransientRecord {
     pub traces: u64,
     pub findings: u64,
@@ -26,7 +26,7 @@ pub struct TransientRecord {
 // The answer's numbers: those of a refusal, or 0 and 0; then how many findings this trace has and how many contracts
 // were given, 0 and 0 under a refusal.
 #[repr(C)]
-#[derive(Drop)]
+#[derive(Clone, Copy)]
 pub struct TransientNumbers {
     pub number: u32,
     pub place: u64,
@@ -36,7 +36,7 @@ pub struct TransientNumbers {
 
 // The same numbers, with the record after the call.
 #[repr(C)]
-#[derive(Drop)]
+#[derive(Clone, Copy)]
 pub struct RecordedTrace {
     pub number: u32,
     pub place: u64,

@@ -8,7 +8,7 @@ pub list_within-listed-requires : goal.list_within-listed-requires
 list_within-listed-requires c = feedback-fitted _ _ _ _ _ (sym c.feedback_fits.ensures ∙ c.if-feedback_fits.true)
 
 pub returns-then-feedback_fits : goal.returns-then-feedback_fits
-returns-then-feedback_fits c = record { answer = sym (sym c.feedback_fits.ensures ∙ c.if-feedback_fits.true); lists = c.list_within-listed.ensures.0; counts = c.list_within-listed.ensures.1 }
+returns-then-feedback_fits c = record { answer = sym (sym c.feedback_fits.ensures ∙ c.if-feedback_fits.true); lists = c.list_within-listed.ensures.ids; counts = c.list_within-listed.ensures.counted }
 
 pub returns-else-feedback_fits : goal.returns-else-feedback_fits
 returns-else-feedback_fits c = record { answer = sym (sym c.feedback_fits.ensures ∙ c.if-feedback_fits.false); lists = refl; counts = refl }

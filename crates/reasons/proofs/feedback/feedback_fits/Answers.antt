@@ -18,4 +18,4 @@ returns-then-feedback-n c = simp (eq-eqb _ _ c.if-kinds-n.false, le-leb _ _ c.if
 
 pub returns : goal.returns
 unfolding feedback_fits
-returns c = simp (eq-eqb _ _ c.if-kinds-n.false, le-leb _ _ c.if-n-gt-MAX_COMPONENTS.false, le-leb _ _ c.if-feedback-n.false) c.edges_fit_lem.ensures
+returns c = simp (eq-eqb _ _ c.if-kinds-n.false, le-leb _ _ c.if-n-gt-MAX_COMPONENTS.false, le-leb _ _ c.if-feedback-n.false) c.edges_fit.ensures

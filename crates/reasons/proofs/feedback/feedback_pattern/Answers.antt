@@ -4,4 +4,4 @@ use borrow.Author.Rules.{rules}
 use Rattle.reasons.proofs.feedback.feedback_pattern.Goals as goal
 
 pub returns : goal.returns
-returns c = (c.list_shared-listed.ensures.0, c.list_shared-listed.ensures.1.0, pattern-marked c.args.ids.now c.args.kinds.now c.args.starts.now c.args.stops.now _ _ c.requires.1 c.list_shared-listed.ensures.1.1 c.list_shared-listed.ensures.1.0 c.classify_behavior_patterns-pattern.ensures)
+returns c = (c.list_shared-listed.ensures.ids, c.list_shared-listed.ensures.counted, pattern-marked c.args.ids.now c.args.kinds.now c.args.starts.now c.args.stops.now _ _ c.requires.1 c.list_shared-listed.ensures.marked c.list_shared-listed.ensures.counted c.classify_behavior_patterns-pattern.ensures)

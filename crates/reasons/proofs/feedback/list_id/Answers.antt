@@ -4,4 +4,4 @@ use borrow.Author.Rules.{rules}
 use Rattle.reasons.proofs.feedback.list_id.Goals as goal
 
 pub returns-then-listed : goal.returns-then-listed
-returns-then-listed c = rw c.if-listed.true (refl, refl)
+returns-then-listed c = rw c.if-listed.true (record { ids = refl; counted = refl })

@@ -23,5 +23,5 @@ list_marked-requires c = record { kinds-length = c.requires.1.kinds-length; mark
 pub returns : goal.returns
 returns c =
     let e = written-front (length c.args.ids.now) c.mark_positions.new.marks _ (shared_marks (edges_between c.args.starts.now c.args.stops.now) (length c.args.ids.now)) (c.mark_positions.auto.marks ∙ length-take-le (length c.args.ids.now) c.args.marks.now c.requires.1.marks-room) (c.mark_positions.ensures ∙ ap (shared_marks (edges_between c.args.starts.now c.args.stops.now)) (length-take-le (length c.args.ids.now) c.args.marks.now c.requires.1.marks-room)) in
-    let p = shared-listed _ _ _ _ _ _ _ _ e c.list_marked.ensures in
-    (p.0, (p.1, e))
+    let p = shared-listed _ _ _ _ _ _ _ _ e (c.list_marked.ensures.ids, c.list_marked.ensures.counted) in
+    record { ids = p.0; counted = p.1; marked = e }

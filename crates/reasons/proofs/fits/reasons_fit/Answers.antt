@@ -14,19 +14,19 @@ overflow_add-n c = omega (arith, (components-fitted c.args.n c.args.kinds c.args
 
 pub returns-then-reasons_room : goal.returns-then-reasons_room
 unfolding reasons_fit
-returns-then-reasons_room c = simp (sym c.components_fit.ensures ∙ c.if-components_fit.true, sym c.edges_fit_lem.ensures ∙ c.if-edges_fit.true, sym c.order_fits.ensures ∙ c.if-order_fits.true, sym c.reasons_room.ensures ∙ c.if-reasons_room.true) c.labels_room.ensures
+returns-then-reasons_room c = simp (sym c.components_fit.ensures ∙ c.if-components_fit.true, sym c.edges_fit.ensures ∙ c.if-edges_fit.true, sym c.order_fits.ensures ∙ c.if-order_fits.true, sym c.reasons_room.ensures ∙ c.if-reasons_room.true) c.labels_room.ensures
 
 pub returns-else-reasons_room : goal.returns-else-reasons_room
 unfolding reasons_fit
-returns-else-reasons_room c = simp (sym c.components_fit.ensures ∙ c.if-components_fit.true, sym c.edges_fit_lem.ensures ∙ c.if-edges_fit.true, sym c.order_fits.ensures ∙ c.if-order_fits.true, sym c.reasons_room.ensures ∙ c.if-reasons_room.false)
+returns-else-reasons_room c = simp (sym c.components_fit.ensures ∙ c.if-components_fit.true, sym c.edges_fit.ensures ∙ c.if-edges_fit.true, sym c.order_fits.ensures ∙ c.if-order_fits.true, sym c.reasons_room.ensures ∙ c.if-reasons_room.false)
 
 pub returns-else-order_fits : goal.returns-else-order_fits
 unfolding reasons_fit
-returns-else-order_fits c = simp (sym c.components_fit.ensures ∙ c.if-components_fit.true, sym c.edges_fit_lem.ensures ∙ c.if-edges_fit.true, sym c.order_fits.ensures ∙ c.if-order_fits.false)
+returns-else-order_fits c = simp (sym c.components_fit.ensures ∙ c.if-components_fit.true, sym c.edges_fit.ensures ∙ c.if-edges_fit.true, sym c.order_fits.ensures ∙ c.if-order_fits.false)
 
 pub returns-else-edges_fit : goal.returns-else-edges_fit
 unfolding reasons_fit
-returns-else-edges_fit c = simp (sym c.components_fit.ensures ∙ c.if-components_fit.true, sym c.edges_fit_lem.ensures ∙ c.if-edges_fit.false)
+returns-else-edges_fit c = simp (sym c.components_fit.ensures ∙ c.if-components_fit.true, sym c.edges_fit.ensures ∙ c.if-edges_fit.false)
 
 pub returns-else-components_fit : goal.returns-else-components_fit
 unfolding reasons_fit

@@ -39,7 +39,6 @@ use denote.Signature.{plain}
 use denote.Triple.Entry.{on_entry}
 use denote.Triple.End.{lasts_of}
 use denote.Triple.Spec.{Meets, triple_of}
-use denote.Triple.Statement.{Contract, Triple}
 use denote.Triple.Call.{calls_at}
 use denote.Triple.Clauses.{ensured, Lasts, lasts}
 use denote.Triple.Table.{entered, cited}
@@ -65,8 +64,8 @@ use Rattle.recording.proofs.record.recorded.Symbol.{name as #recorded}
 use Rattle.recording.proofs.record.recorded.Met as callee-thm
 use Rattle.recording.specs.contracts.record.TransientRecord.record_trace.Key.{name as #record-trace}
 use Rattle.recording.specs.contracts.record.TransientRecord.record_trace as f
-use Rattle.recording.proofs.record.TransientRecord.record_trace.Statement as stated
 use Rattle.recording.proofs.record.TransientRecord.record_trace.Code as code
+use Rattle.recording.proofs.record.TransientRecord.record_trace.Goals as goal
 
 -- at exit the record's borrow is still owned, and of the rest there is what says its last value
 abbrev stayed : Stays (f.ended).signature.params (f.ended).kept
@@ -206,11 +205,3 @@ record-trace-meets : {M : Type 1} {𝓤 : Ura M} (𝓛 : Logic 𝓤) → (mem : 
 record-trace-meets {𝓤 = 𝓤} 𝓛 mem run 𝓣 known =
     walk_Meets 𝓛 f.ended stayed (Goes-ref 𝓛 23 0 tt (plain (λ _. T.the_row)), lefts-go 𝓛 23 (others (f.ended).signature.params) (f.ended).kept.1) (f.clauses 𝓛 mem run)
     (WpFn 𝓤 𝓛.H 𝓣.C 𝓣.Λ code.function) (WpFn-mono 𝓤 𝓛.H 𝓛.laws 𝓣 code.function) (record-trace-walks 𝓛 mem run 𝓣.C 𝓣.Λ (fm_of 𝓤 𝓛.H 𝓛.laws 𝓣) known)
-
-pub record-trace-spec : {M : Type 1} → stated.statement M
-unfolding code.routine tables_of
-record-trace-spec 𝓤 𝓛 𝓜 𝓡 =
-    entered 𝓤 𝓛.H (triple_of 𝓛 f.signature (f.spec 𝓛 𝓜.mem 𝓡.run))
-    (tables 𝓤 𝓛.H 𝓜 𝓡 code.env).C (tables 𝓤 𝓛.H 𝓜 𝓡 code.env).Λ #record-trace code.function (code.unfolded 𝓤 𝓛.H 𝓜 𝓡)
-    (record-trace-meets 𝓛 𝓜.mem 𝓡.run (tables_of 𝓤 𝓛.H 𝓜 (tables 𝓤 𝓛.H 𝓜 𝓡 code.env))
-    (cited 𝓤 𝓛.H (Rec 𝓛 𝓜.mem 𝓡.run) 𝓜 𝓡 code.env #recorded callee-def.routine code.calls-recording::record::recorded (callee-thm.met 𝓤 𝓛 𝓜 𝓡)))

@@ -42,7 +42,6 @@ use denote.Builtin.{u8, u64, usize}
 use denote.Steps.{only, owned, peeks, heard, nothing}
 use denote.Struct.Laws as LL
 use denote.Triple.Entry.{Vals, on_entry}
-use denote.Triple.Statement.{Contract, Triple}
 use denote.Triple.Call.{calls_at}
 use denote.Triple.Clauses.{ensured, lasts}
 use denote.Triple.Spec.{Meets, triple_of}
@@ -64,9 +63,9 @@ use Rattle.events.proofs.counted.fitting.Symbol.{name as #fitting}
 use Rattle.events.proofs.counted.fitting.Met as fitting-thm
 use Rattle.events.specs.contracts.records.read_events.Key.{name as #this}
 use Rattle.events.specs.contracts.records.read_events as f
-use Rattle.events.proofs.records.read_events.Statement as stated
 use Rattle.events.proofs.records.read_events.Code as code
 use Rattle.events.proofs.records.read_events.Code.Mir as body
+use Rattle.events.proofs.records.read_events.Goals as goal
 
 abbrev R : RattleType
 R = T.the_row
@@ -321,11 +320,3 @@ module _ {M : Type 1} {𝓤 : Ura M} (𝓛 : Logic 𝓤) (mem : Memory → SProp
   meets : (𝓣 : Tables 𝓤 H) → Triple 𝓤 (𝓣.C #fitting) (Asked 𝓛 mem run) → Meets 𝓛 f.signature (WpFn 𝓤 H 𝓣.C 𝓣.Λ code.function) (f.spec 𝓛 mem run)
   meets 𝓣 known = walk_Meets 𝓛 f.ended stayed (Goes-dropped 𝓛 1 (shr_slice_of (0 ∷ []) tt (plain (λ _. R))) yes (λ κs x f. refl), tt)
       (f.clauses 𝓛 mem run) (WpFn 𝓤 H 𝓣.C 𝓣.Λ code.function) (WpFn-mono 𝓤 H 𝓛.laws 𝓣 code.function) (walks 𝓣 known)
-
-pub read-events-spec : {M : Type 1} → stated.statement M
-unfolding code.routine tables_of
-read-events-spec 𝓤 𝓛 𝓜 𝓡 =
-    entered 𝓤 𝓛.H (triple_of 𝓛 f.signature (f.spec 𝓛 𝓜.mem 𝓡.run))
-    (tables 𝓤 𝓛.H 𝓜 𝓡 code.env).C (tables 𝓤 𝓛.H 𝓜 𝓡 code.env).Λ #this code.function (code.unfolded 𝓤 𝓛.H 𝓜 𝓡)
-    (meets 𝓛 𝓜.mem 𝓡.run (tables_of 𝓤 𝓛.H 𝓜 (tables 𝓤 𝓛.H 𝓜 𝓡 code.env))
-    (cited 𝓤 𝓛.H (Asked 𝓛 𝓜.mem 𝓡.run) 𝓜 𝓡 code.env #fitting fitting-def.routine code.calls-events::counted::fitting (fitting-thm.met 𝓤 𝓛 𝓜 𝓡)))

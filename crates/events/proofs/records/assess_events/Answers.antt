@@ -30,7 +30,6 @@ use denote.Steps.{peeks, heard, nothing}
 use denote.Struct.Laws as LL
 use denote.Triple.Entry.{on_entry}
 use denote.Triple.Spec.{Meets, triple_of}
-use denote.Triple.Statement.{Contract, Triple}
 use denote.Triple.Call.{calls_at}
 use denote.Triple.Clauses.{ensured, Lasts, lasts}
 use denote.Triple.Table.{entered, cited}
@@ -57,8 +56,8 @@ use Rattle.events.proofs.counted.assess_counted.Symbol.{name as #assess}
 use Rattle.events.proofs.counted.assess_counted.Met as assess-thm
 use Rattle.events.specs.contracts.records.assess_events.Key.{name as #this}
 use Rattle.events.specs.contracts.records.assess_events as f
-use Rattle.events.proofs.records.assess_events.Statement as stated
 use Rattle.events.proofs.records.assess_events.Code as code
+use Rattle.events.proofs.records.assess_events.Goals as goal
 
 -- of every parameter there is at exit what says its last value
 abbrev stayed : Stays (f.ended).signature.params (f.ended).kept
@@ -201,12 +200,3 @@ module _ {M : Type 1} {𝓤 : Ura M} (𝓛 : Logic 𝓤) (mem : Memory → SProp
   meets 𝓣 known-reading known-assessing =
       walk_Meets 𝓛 f.ended stayed (lefts-go 𝓛 20 (f.ended).signature.params (f.ended).kept) (f.clauses 𝓛 mem run)
       (WpFn 𝓤 H 𝓣.C 𝓣.Λ code.function) (WpFn-mono 𝓤 H 𝓛.laws 𝓣 code.function) (walks 𝓣.C 𝓣.Λ (fm_of 𝓤 H 𝓛.laws 𝓣) known-reading known-assessing)
-
-pub assess-events-spec : {M : Type 1} → stated.statement M
-unfolding code.routine tables_of
-assess-events-spec 𝓤 𝓛 𝓜 𝓡 =
-    entered 𝓤 𝓛.H (triple_of 𝓛 f.signature (f.spec 𝓛 𝓜.mem 𝓡.run))
-    (tables 𝓤 𝓛.H 𝓜 𝓡 code.env).C (tables 𝓤 𝓛.H 𝓜 𝓡 code.env).Λ #this code.function (code.unfolded 𝓤 𝓛.H 𝓜 𝓡)
-    (meets 𝓛 𝓜.mem 𝓡.run (tables_of 𝓤 𝓛.H 𝓜 (tables 𝓤 𝓛.H 𝓜 𝓡 code.env))
-    (cited 𝓤 𝓛.H (Reading 𝓛 𝓜.mem 𝓡.run) 𝓜 𝓡 code.env #reads reads-def.routine code.calls-events::records::read-events (reads-thm.met 𝓤 𝓛 𝓜 𝓡))
-    (cited 𝓤 𝓛.H (Assessing 𝓛 𝓜.mem 𝓡.run) 𝓜 𝓡 code.env #assess assess-def.routine code.calls-events::counted::assess-counted (assess-thm.met 𝓤 𝓛 𝓜 𝓡)))

@@ -1,0 +1,8 @@
+-- One trace more. Assumes nothing.
+use borrow.Author.Rules.{rules}
+use Rattle.recording.proofs.RecordSteps.{one-trace-more}
+use borrow.Author.Rules.{rules}
+use Rattle.recording.proofs.record.grown.Goals as goal
+
+pub returns : goal.returns
+returns c = one-trace-more c.args.traces c.args.findings c.args.found c.add_tallies-sums.ensures
