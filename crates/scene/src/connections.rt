@@ -11,7 +11,7 @@ use rules::limits::MAX_COMPONENTS;
 use rules::positions::Found;
 
 // What one connection is: refused by a number; or else a support, 0 edges; or 1 edge between two positions.
-#[derive(Drop)]
+#[derive(Clone, Copy)]
 pub(crate) struct LinkEnds {
     pub refusal: u32,
     pub edges: usize,
@@ -73,7 +73,7 @@ fn look_up(
 }
 
 // The answer of the connections' tests, and how many edges there are.
-#[derive(Drop)]
+#[derive(Clone, Copy)]
 pub(crate) struct EdgePositions {
     pub checked: Checked,
     pub edges: usize,

@@ -13,7 +13,7 @@ use rules::limits::{MAX_COMPONENTS, MAX_CONNECTIONS};
 
 // Whether the lists lent had room, what the checks found, and how many edges there are. Without room nothing is
 // tested, and the answer has refusal 0, which is none of document 01's.
-#[derive(Drop)]
+#[derive(Clone, Copy)]
 pub struct ScenePositions {
     pub room: bool,
     pub checked: Checked,

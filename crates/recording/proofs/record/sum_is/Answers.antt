@@ -6,13 +6,13 @@ use Rattle.recording.proofs.Sums.{LeftAfter, left-all, left-more, too-little, no
 use Rattle.recording.proofs.record.sum_is.Goals as goal
 
 pub loop-k-init : goal.loop-k-init
-loop-k-init c = (left-all c.args.t1 c.args.total, omega arith)
+loop-k-init c = (left-all c.args.tallies c.args.total, omega arith)
 
 pub returns-then-left-tally : goal.returns-then-left-tally
-returns-then-left-tally c = too-little c.args.t1 c.args.total c.loop-k.left c.loop-k.k (omega (arith, c.well_formed.0)) c.if-left-tally.true c.loop-k.invariant.0
+returns-then-left-tally c = too-little c.args.tallies c.args.total c.loop-k.left c.loop-k.k (omega (arith, c.well_formed.0)) c.if-left-tally.true c.loop-k.invariant.0
 
 pub loop-k-preserved : goal.loop-k-preserved
-loop-k-preserved c = (left-more c.args.t1 c.args.total c.loop-k.left c.loop-k.k (omega (arith, c.well_formed.0)) c.if-left-tally.false c.loop-k.invariant.0, omega arith)
+loop-k-preserved c = (left-more c.args.tallies c.args.total c.loop-k.left c.loop-k.k (omega (arith, c.well_formed.0)) c.if-left-tally.false c.loop-k.invariant.0, omega arith)
 
 pub returns : goal.returns
-returns c = nothing_left c.args.t1 c.args.total c.loop-k.left c.loop-k.k (omega (arith, c.well_formed.0)) c.loop-k.invariant.0
+returns c = nothing_left c.args.tallies c.args.total c.loop-k.left c.loop-k.k (omega (arith, c.well_formed.0)) c.loop-k.invariant.0

@@ -1,5 +1,4 @@
 use Rattle.tables.proofs.Table.{delay-of-row}
-use borrow.Author.Rules.{rules}
 use Rattle.tables.proofs.kinds.component_delay.Goals as goal
 
 pub returns : goal.returns

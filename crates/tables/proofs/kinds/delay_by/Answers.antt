@@ -2,7 +2,6 @@
 use native.Mathlib.Omega.{arith}
 use mathlib.Core.Path.{◌∙◌}
 use Rattle.tables.proofs.Table.{delay-fixed, delay-own, delay-absent}
-use borrow.Author.Rules.{rules}
 use Rattle.tables.proofs.kinds.delay_by.Goals as goal
 
 pub returns-in-Fixed : goal.returns-in-Fixed

@@ -1,5 +1,4 @@
 use Rattle.tables.proofs.Table.{timing-of-row}
-use borrow.Author.Rules.{rules}
 use Rattle.tables.proofs.kinds.edge_timing.Goals as goal
 
 pub returns : goal.returns

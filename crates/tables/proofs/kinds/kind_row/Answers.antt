@@ -1,5 +1,4 @@
 use Rattle.tables.proofs.Table.{row_inside, row-past}
-use borrow.Author.Rules.{rules}
 use Rattle.tables.proofs.kinds.kind_row.Goals as goal
 
 pub returns-then-i-lt13 : goal.returns-then-i-lt13

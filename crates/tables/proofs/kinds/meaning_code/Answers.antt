@@ -1,6 +1,5 @@
 -- A kind is a device where its row says so. Assumes nothing.
 use Rattle.tables.proofs.Table.{no-meaning, some-meaning}
-use borrow.Author.Rules.{rules}
 use Rattle.tables.proofs.kinds.meaning_code.Goals as goal
 
 pub returns-in-NoDevice : goal.returns-in-NoDevice

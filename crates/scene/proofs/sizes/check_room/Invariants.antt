@@ -1,0 +1,14 @@
+-- Assumes nothing.
+use native.Mathlib.Omega.{arith}
+use mathlib.Core.Path.{◌≡◌, refl, sym, subst, ◌∙◌}
+use Prim.Native.Nat.{◌-◌, ◌≤◌, ◌<◌}
+use lib.ListN.{length, get_or}
+use borrow.Author.Rules.{rules}
+use Rattle.scene.proofs.Room.{room_left, room-more, room-short, room-past, room-end}
+use Rattle.scene.proofs.sizes.check_room.Given as goal
+
+abbrev pub invariant-loop-k : goal.invariant-loop-k
+invariant-loop-k l = (room_left l.n l.m l.first 0 l.room ≡ room_left l.n l.m l.list l.k l.room) × (l.k ≤ length l.room)
+
+abbrev pub decreases-loop-k : goal.decreases-loop-k
+decreases-loop-k l = length l.room - l.k

@@ -1,0 +1,20 @@
+-- The needs, case by case. Assumes nothing.
+use native.Mathlib.Omega.{arith}
+use Prim.Native.Nat.{◌<◌}
+use mathlib.Core.Path.{refl, sym}
+use Rattle.scene.proofs.Room.{past-lists}
+use borrow.Author.Rules.{rules}
+use Rattle.scene.proofs.sizes.need_of.Goals as goal
+
+pub returns-in-2 : goal.returns-in-2
+returns-in-2 c = rw c.in-2.is refl
+
+pub returns-in-3 : goal.returns-in-3
+returns-in-3 c = rw c.in-3.is refl
+
+pub returns-in-7 : goal.returns-in-7
+returns-in-7 c = rw c.in-7.is refl
+
+pub returns-in_default : goal.returns-in_default
+returns-in_default c = let low : 4 < c.args.list = omega (arith, c.in_default.rest.0.0.0.0.1, c.in_default.rest.0.0.0.0.0.1, c.in_default.rest.0.0.0.0.0.0.1, c.in_default.rest.0.0.0.0.0.0.0.1, c.in_default.rest.0.0.0.0.0.0.0.0.1) in
+    sym (past-lists c.args.n c.args.m c.args.list (omega (arith, low, c.in_default.rest.1, c.in_default.rest.0.1, c.in_default.rest.0.0.1, c.in_default.rest.0.0.0.1)))
