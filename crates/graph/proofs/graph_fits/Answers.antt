@@ -2,7 +2,6 @@
 use mathlib.Core.Path.{sym, ◌∙◌}
 use borrow.Author.Tests.{eq-eqb, ne_eqb, le-leb, lt-leb}
 use Rattle.graph.specs.Fits.{graph_fits}
-use borrow.Author.Rules.{rules}
 use Rattle.graph.proofs.graph_fits.Goals as goal
 
 pub returns-then-sinks-sources : goal.returns-then-sinks-sources

@@ -5,7 +5,6 @@ use native.Mathlib.Omega.{arith}
 use lib.Seq.{length-take-le}
 use Rattle.graph.proofs.Fitting.{fitted}
 use Rattle.graph.proofs.SharedMarks.{front_length, front-most, front-rooted, front-marks}
-use borrow.Author.Rules.{rules}
 use Rattle.graph.proofs.mark_shared_components.Goals as goal
 
 pub slice_bounds-strongly_connected_components-end : goal.slice_bounds-strongly_connected_components-end

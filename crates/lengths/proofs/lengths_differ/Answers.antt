@@ -1,9 +1,6 @@
 -- The lengths are held against the first, in order. Assumes nothing.
 use native.Mathlib.Omega.{arith}
-use Prim.Native.Nat.{◌-◌, ◌≤◌}
-use lib.ListN.{length}
-use borrow.Author.Rules.{rules}
-use Rattle.lengths.proofs.Alike.{AlikeBelow, alike-more, alike_all, differ-at}
+use Rattle.lengths.proofs.Alike.{alike-more, alike_all, differ-at}
 use Rattle.lengths.proofs.lengths_differ.Goals as goal
 
 pub loop-i-init : goal.loop-i-init

@@ -1,9 +1,7 @@
 -- The lengths are held against the first, in order. Assumes nothing.
-use native.Mathlib.Omega.{arith}
 use Prim.Native.Nat.{◌-◌, ◌≤◌}
 use lib.ListN.{length}
-use borrow.Author.Rules.{rules}
-use Rattle.lengths.proofs.Alike.{AlikeBelow, alike-more, alike_all, differ-at}
+use Rattle.lengths.proofs.Alike.{AlikeBelow}
 use Rattle.lengths.proofs.lengths_differ.Given as goal
 
 abbrev pub invariant-loop-i : goal.invariant-loop-i

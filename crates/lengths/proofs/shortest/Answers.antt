@@ -1,10 +1,5 @@
 -- The lengths are gone through from the last on. Assumes nothing.
-use mathlib.Core.Path.{◌≡◌}
-use Prim.Native.Nat.{◌<◌}
 use native.Mathlib.Omega.{arith}
-use borrow.Author.Rules.{rules}
-use lib.ListN.{length, drop}
-use Rattle.rules.specs.Refusals.{shortest}
 use Rattle.lengths.proofs.Least.{shortest-none, shortest-last, shortest-more, shortest-all}
 use Rattle.lengths.proofs.shortest.Goals as goal
 

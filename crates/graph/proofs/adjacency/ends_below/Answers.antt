@@ -1,9 +1,6 @@
 -- `ends_below` tests the ends one by one. Assumes nothing.
-use Prim.Native.Nat.{ℕ, ◌-◌, ◌<◌, ◌≤◌}
 use native.Mathlib.Omega.{arith}
 use borrow.Author.Count.{below_more}
-use borrow.Author.Rules.{rules}
-use lib.ListN.{length, get_or}
 use Rattle.graph.proofs.Fitting.{ends-all, ends-one}
 use Rattle.graph.proofs.adjacency.ends_below.Goals as goal
 

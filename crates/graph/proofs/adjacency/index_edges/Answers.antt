@@ -1,6 +1,5 @@
 -- `index_edges` links the edges where the lists fit. Assumes nothing.
 use mathlib.Core.Path.{sym, ◌∙◌}
-use borrow.Author.Rules.{rules}
 use Rattle.graph.proofs.Fitting.{ends-below, index-misfit, index-outside, index-done}
 use Rattle.graph.proofs.adjacency.index_edges.Goals as goal
 

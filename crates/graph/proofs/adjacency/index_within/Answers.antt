@@ -1,5 +1,4 @@
 -- `index_within` clears the heads and links the edges. Assumes nothing.
-use borrow.Author.Rules.{rules}
 use Rattle.graph.proofs.adjacency.index_within.Goals as goal
 
 pub link_edges-requires : goal.link_edges-requires

@@ -1,9 +1,8 @@
 -- `link_edges` puts each edge in front of its source's chain. Assumes nothing.
-use Prim.Native.Nat.{ℕ, suc, ◌-◌, ◌≤◌}
+use Prim.Native.Nat.{ℕ, suc, ◌-◌}
 use mathlib.Core.Path.{◌≡◌, refl, subst}
 use native.Mathlib.Omega.{arith}
-use borrow.Author.Rules.{rules}
-use lib.ListN.{length, get_or, length-set}
+use lib.ListN.{get_or, length-set}
 use Rattle.graph.proofs.Chains.{LinkedFrom, linked-none, linked-more, linked-whole}
 use Rattle.graph.proofs.adjacency.link_edges.Goals as goal
 

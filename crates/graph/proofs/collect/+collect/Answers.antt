@@ -1,13 +1,8 @@
 -- `collect` marks and groups what it reaches. The measure is the number of nodes not seen. Assumes nothing.
-use Prim.Native.Nat.{◌-◌}
-use mathlib.Core.Logic.{⊎_elim}
 use native.Mathlib.Omega.{arith}
-use borrow.Author.Rules.{rules}
-use lib.ListN.{length, length-set}
-use Rattle.graph.specs.Visits.{unseen}
+use lib.ListN.{length-set}
 use Rattle.graph.proofs.Visits.{below-t}
-use Rattle.graph.proofs.GroupSteps.{Gathering, gather_none, kept-marks, kept-groups, fewer, open-again, gather-old, gather-new, gathered}
-use Prim.Native.Nat.{ℕ, ◌<◌}
+use Rattle.graph.proofs.GroupSteps.{gather_none, kept-marks, kept-groups, fewer, open-again, gather-old, gather-new, gathered}
 use Rattle.graph.proofs.collect.+collect.Goals as goal
 use Rattle.graph.proofs.collect.+collect.Goals.{then-marks-v-eq0, else-marks-v-eq0}
 
@@ -53,8 +48,8 @@ loop-e-preserved t c =
     let l = c.loop-e in
     let more = c.loop-e-test.true in
     elim c.if-marks-v-eq0.branch [
-      then-marks-v-eq0 w ↦ rw (w.marks-is, w.group-is) (gather-new p.0 a.root a.u p.1 p.2 _ l.e l.invariant more w.collect.ensures)
-    | else-marks-v-eq0 w ↦ rw (w.marks-is, w.group-is) (gather-old p.0 a.root a.u p.1 p.2 _ l.e l.invariant more w.if-marks-v-eq0.false)
+      | then-marks-v-eq0 w ↦ rw (w.marks-is, w.group-is) (gather-new p.0 a.root a.u p.1 p.2 _ l.e l.invariant more w.collect.ensures)
+      | else-marks-v-eq0 w ↦ rw (w.marks-is, w.group-is) (gather-old p.0 a.root a.u p.1 p.2 _ l.e l.invariant more w.if-marks-v-eq0.false)
     ]
 
 pub bounds-group-u : goal.bounds-group-u

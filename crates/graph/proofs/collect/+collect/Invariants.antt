@@ -1,13 +1,8 @@
 -- `collect` marks and groups what it reaches. The measure is the number of nodes not seen. Assumes nothing.
 use Prim.Native.Nat.{◌-◌}
-use mathlib.Core.Logic.{⊎_elim}
-use native.Mathlib.Omega.{arith}
-use borrow.Author.Rules.{rules}
-use lib.ListN.{length, length-set}
+use lib.ListN.{length}
 use Rattle.graph.specs.Visits.{unseen}
-use Rattle.graph.proofs.Visits.{below-t}
-use Rattle.graph.proofs.GroupSteps.{Gathering, gather_none, kept-marks, kept-groups, fewer, open-again, gather-old, gather-new, gathered}
-use Prim.Native.Nat.{ℕ, ◌<◌}
+use Rattle.graph.proofs.GroupSteps.{Gathering}
 use Rattle.graph.proofs.collect.+collect.Given as goal
 
 abbrev pub decreases-collect : goal.decreases-collect

@@ -1,9 +1,7 @@
 -- `clear` sets every mark to 0. Assumes nothing.
 use Prim.Native.Nat.{◌-◌}
-use native.Mathlib.Omega.{arith}
-use borrow.Author.Rules.{rules}
-use lib.ListN.{length, length-set}
-use Rattle.graph.proofs.Filled.{Filled, filled_none, filled_more, filled-all}
+use lib.ListN.{length}
+use Rattle.graph.proofs.Filled.{Filled}
 use Rattle.graph.proofs.components.clear.Given as goal
 
 abbrev pub invariant-loop-u : goal.invariant-loop-u

@@ -1,11 +1,8 @@
 -- `mark_shared` marks the nodes that share their group. Assumes nothing.
-use Prim.Native.Nat.{◌-◌}
-use mathlib.Core.Logic.{⊎_elim}
 use mathlib.Core.Path.{◌∙◌}
 use native.Mathlib.Omega.{arith}
-use borrow.Author.Rules.{rules}
-use lib.ListN.{length, length-set}
-use Rattle.graph.proofs.SharedMarks.{Marking, marking-none, marking-root, marking-place, marking-both, marking-end}
+use lib.ListN.{length-set}
+use Rattle.graph.proofs.SharedMarks.{marking-none, marking-root, marking-place, marking-both, marking-end}
 use Rattle.graph.proofs.components.mark_shared.Goals as goal
 use Rattle.graph.proofs.components.mark_shared.Goals.{then-root-u, else-root-u}
 
@@ -24,8 +21,8 @@ loop-u-preserved c =
     let l = c.loop-u in
     let more = c.loop-u-test.true in
     elim c.if-root-u.branch [
-      then-root-u w ↦ rw w.marks-is (marking-both _ _ _ _ p l.invariant more w.if-root-u.true)
-    | else-root-u w ↦ rw w.marks-is (marking-root _ _ _ _ p l.invariant w.if-root-u.false)
+      | then-root-u w ↦ rw w.marks-is (marking-both _ _ _ _ p l.invariant more w.if-root-u.true)
+      | else-root-u w ↦ rw w.marks-is (marking-root _ _ _ _ p l.invariant w.if-root-u.false)
     ]
 
 pub shape_of-marks : goal.shape_of-marks

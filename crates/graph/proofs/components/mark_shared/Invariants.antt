@@ -1,11 +1,7 @@
 -- `mark_shared` marks the nodes that share their group. Assumes nothing.
 use Prim.Native.Nat.{◌-◌}
-use mathlib.Core.Logic.{⊎_elim}
-use mathlib.Core.Path.{◌∙◌}
-use native.Mathlib.Omega.{arith}
-use borrow.Author.Rules.{rules}
-use lib.ListN.{length, length-set}
-use Rattle.graph.proofs.SharedMarks.{Marking, marking-none, marking-root, marking-place, marking-both, marking-end}
+use lib.ListN.{length}
+use Rattle.graph.proofs.SharedMarks.{Marking}
 use Rattle.graph.proofs.components.mark_shared.Given as goal
 
 abbrev pub invariant-loop-u : goal.invariant-loop-u

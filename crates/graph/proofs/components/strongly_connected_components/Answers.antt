@@ -1,13 +1,12 @@
 -- `strongly_connected_components` makes its two passes. Assumes nothing.
 use mathlib.Core.Path.{sym, subst, ◌∙◌}
 use native.Mathlib.Omega.{arith}
-use borrow.Author.Rules.{rules}
 use lib.ListN.{length}
 use Rattle.rules.specs.Graph.{edges_between}
 use Rattle.graph.specs.Groups.{Between, Grouped}
 use Rattle.graph.proofs.Filled.{no-marks}
 use Rattle.graph.proofs.Visits.{unseen_most}
-use Rattle.graph.proofs.Sweep.{Sweeping, linked_of, sweep-start, sweep-open, sweep-place, sweep-node, sweep-old, sweep-new, sweep-end}
+use Rattle.graph.proofs.Sweep.{linked_of, sweep-start, sweep-open, sweep-place, sweep-node, sweep-old, sweep-new, sweep-end}
 use Rattle.graph.proofs.components.strongly_connected_components.Goals as goal
 
 pub index_within-requires : goal.index_within-requires

@@ -1,9 +1,7 @@
 -- `set_all` sets entry after entry to the value. Assumes nothing.
-use Prim.Native.Nat.{◌-◌}
 use native.Mathlib.Omega.{arith}
-use borrow.Author.Rules.{rules}
-use lib.ListN.{length, length-set}
-use Rattle.graph.proofs.Filled.{Filled, filled_none, filled_more, filled-all}
+use lib.ListN.{length-set}
+use Rattle.graph.proofs.Filled.{filled_none, filled_more, filled-all}
 use Rattle.graph.proofs.set_all.set_all.Goals as goal
 
 pub loop-i-init : goal.loop-i-init

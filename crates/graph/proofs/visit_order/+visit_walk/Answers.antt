@@ -1,14 +1,9 @@
 -- `visit` and `walk` visit nodes depth-first. The measure is twice the number of nodes not seen, and one more for a walk. Assumes nothing.
-use Prim.Native.Nat.{◌+◌, ◌-◌, ◌*◌}
-use mathlib.Core.Logic.{⊎_elim}
 use mathlib.Core.Path.{refl, ◌∙◌}
 use native.Mathlib.Omega.{arith}
-use borrow.Author.Rules.{rules}
-use lib.ListN.{length, length-set}
-use Rattle.graph.specs.Visits.{unseen}
+use lib.ListN.{length-set}
 use Rattle.graph.proofs.Visits.{below-t, dfs-length}
-use Rattle.graph.proofs.OrderSteps.{visit-old, in-marks, fewer, marked, place, visit-new, no_more, Walking, walking-none, walking-ready, walking-more, walked}
-use Prim.Native.Nat.{ℕ, ◌<◌}
+use Rattle.graph.proofs.OrderSteps.{visit-old, in-marks, fewer, marked, place, visit-new, no_more, walking-none, walking-ready, walking-more, walked}
 use Rattle.graph.proofs.visit_order.+visit_walk.Goals as goal
 use Rattle.graph.proofs.visit_order.+visit_walk.Goals.{walk-then-marks-v-eq0, walk-else-marks-v-eq0}
 
@@ -104,8 +99,8 @@ walk-loop-e-preserved t c =
     let l = c.loop-e in
     let more = c.loop-e-test.true in
     elim c.if-marks-v-eq0.branch [
-      walk-then-marks-v-eq0 w ↦ rw (w.marks-is, w.order-is, w.done-is) (walking-more p first l.e l.invariant more w.visit-done.ensures w.visit-done.auto.order)
-    | walk-else-marks-v-eq0 w ↦ rw (w.marks-is, w.order-is, w.done-is) (walking-more p first l.e l.invariant more (visit-old (walking-ready p first l.e l.invariant) _ w.if-marks-v-eq0.false) refl)
+      | walk-then-marks-v-eq0 w ↦ rw (w.marks-is, w.order-is, w.done-is) (walking-more p first l.e l.invariant more w.visit-done.ensures w.visit-done.auto.order)
+      | walk-else-marks-v-eq0 w ↦ rw (w.marks-is, w.order-is, w.done-is) (walking-more p first l.e l.invariant more (visit-old (walking-ready p first l.e l.invariant) _ w.if-marks-v-eq0.false) refl)
     ]
 
 pub walk-shape_of-marks : goal.walk-shape_of-marks

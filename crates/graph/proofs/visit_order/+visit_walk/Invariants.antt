@@ -1,14 +1,8 @@
 -- `visit` and `walk` visit nodes depth-first. The measure is twice the number of nodes not seen, and one more for a walk. Assumes nothing.
 use Prim.Native.Nat.{◌+◌, ◌-◌, ◌*◌}
-use mathlib.Core.Logic.{⊎_elim}
-use mathlib.Core.Path.{refl, ◌∙◌}
-use native.Mathlib.Omega.{arith}
-use borrow.Author.Rules.{rules}
-use lib.ListN.{length, length-set}
+use lib.ListN.{length}
 use Rattle.graph.specs.Visits.{unseen}
-use Rattle.graph.proofs.Visits.{below-t, dfs-length}
-use Rattle.graph.proofs.OrderSteps.{visit-old, in-marks, fewer, marked, place, visit-new, no_more, Walking, walking-none, walking-ready, walking-more, walked}
-use Prim.Native.Nat.{ℕ, ◌<◌}
+use Rattle.graph.proofs.OrderSteps.{Walking}
 use Rattle.graph.proofs.visit_order.+visit_walk.Given as goal
 
 abbrev pub decreases-visit : goal.decreases-visit

@@ -1,10 +1,7 @@
 -- `visit_order` visits the nodes in turn. Assumes nothing.
-use Prim.Native.Nat.{◌-◌, ◌≤◌}
 use mathlib.Core.Path.{◌≡◌, refl, ◌∙◌}
 use native.Mathlib.Omega.{arith}
 use lib.ListN.{length}
-use Rattle.rules.specs.Lists.{indices}
-use Rattle.graph.specs.Visits.{Visited}
 use Rattle.graph.proofs.Visits.{dfs-length}
 use Rattle.graph.proofs.OrderSteps.{ready-again, visited-start, visited-next}
 use Rattle.graph.proofs.visit_order.visit_order.Goals as goal

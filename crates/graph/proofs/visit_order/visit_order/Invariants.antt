@@ -1,12 +1,9 @@
 -- `visit_order` visits the nodes in turn. Assumes nothing.
 use Prim.Native.Nat.{◌-◌, ◌≤◌}
-use mathlib.Core.Path.{◌≡◌, refl, ◌∙◌}
-use native.Mathlib.Omega.{arith}
+use mathlib.Core.Path.{◌≡◌}
 use lib.ListN.{length}
 use Rattle.rules.specs.Lists.{indices}
 use Rattle.graph.specs.Visits.{Visited}
-use Rattle.graph.proofs.Visits.{dfs-length}
-use Rattle.graph.proofs.OrderSteps.{ready-again, visited-start, visited-next}
 use Rattle.graph.proofs.visit_order.visit_order.Given as goal
 
 abbrev pub invariant-loop-u : goal.invariant-loop-u

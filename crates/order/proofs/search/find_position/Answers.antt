@@ -1,6 +1,5 @@
 -- `find_position` looks whether the first place whose key is not below has the key. Assumes nothing.
 use native.Mathlib.Omega.{arith}
-use borrow.Author.Rules.{rules}
 use Rattle.order.proofs.Searching.{searched-at, searched-missing}
 use Rattle.order.proofs.search.find_position.Goals as goal
 

@@ -1,6 +1,5 @@
 -- `find_rising` looks whether the first position whose key is not below has the key. Assumes nothing.
 use native.Mathlib.Omega.{arith}
-use borrow.Author.Rules.{rules}
 use Rattle.order.proofs.Searching.{rising-at, rising-missing}
 use Rattle.order.proofs.search.find_rising.Goals as goal
 

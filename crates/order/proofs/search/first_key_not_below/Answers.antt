@@ -1,10 +1,7 @@
 -- `first_key_not_below` halves what is still to be searched. Assumes nothing.
-use Prim.Native.Nat.{◌-◌}
 use native.Mathlib.Omega.{arith}
 use lib.ListN.{length}
-use borrow.Author.Rules.{rules}
 use Rattle.rules.specs.Ordered.{key_at}
-use Rattle.order.specs.Searched.{Searching}
 use Rattle.order.proofs.Searching.{searching-all, searching-after, searching-before, searching-done}
 use Rattle.order.proofs.search.first_key_not_below.Goals as goal
 

@@ -1,10 +1,7 @@
 -- `first_not_below` halves what is still to be searched. Assumes nothing.
 use Prim.Native.Nat.{◌-◌}
-use native.Mathlib.Omega.{arith}
 use lib.ListN.{length}
-use borrow.Author.Rules.{rules}
 use Rattle.order.specs.Searched.{Searching, key_of}
-use Rattle.order.proofs.Searching.{searching-all, searching-after, searching-before, searching-done}
 use Rattle.order.proofs.search.first_not_below.Given as goal
 
 abbrev pub invariant-loop-low : goal.invariant-loop-low

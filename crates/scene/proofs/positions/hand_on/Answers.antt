@@ -31,4 +31,4 @@ write_front-requires-3 c = omega (arith, length-take-le c.args.edges c.args.own_
 
 -- src/positions.rt:50:1
 pub returns : goal.returns
-returns c = (c.write_front.ensures, (c.write_front-2.ensures, c.write_front-3.ensures))
+returns c = record { order = c.write_front.ensures; starts = c.write_front-2.ensures; stops = c.write_front-3.ensures }

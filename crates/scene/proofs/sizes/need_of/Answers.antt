@@ -16,5 +16,4 @@ pub returns-in-7 : goal.returns-in-7
 returns-in-7 c = rw c.in-7.is refl
 
 pub returns-in_default : goal.returns-in_default
-returns-in_default c = let low : 4 < c.args.list = omega (arith, c.in_default.rest.0.0.0.0.1, c.in_default.rest.0.0.0.0.0.1, c.in_default.rest.0.0.0.0.0.0.1, c.in_default.rest.0.0.0.0.0.0.0.1, c.in_default.rest.0.0.0.0.0.0.0.0.1) in
-    sym (past-lists c.args.n c.args.m c.args.list (omega (arith, low, c.in_default.rest.1, c.in_default.rest.0.1, c.in_default.rest.0.0.1, c.in_default.rest.0.0.0.1)))
+returns-in_default c = sym (past-lists c.args.n c.args.m c.args.list (omega arith))

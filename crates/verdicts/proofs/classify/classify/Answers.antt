@@ -1,7 +1,5 @@
 -- With a contract, or without. Assumes nothing.
-use borrow.Author.Rules.{rules}
 use Rattle.verdicts.proofs.VerdictSteps.{no-contract, with-contract}
-use borrow.Author.Rules.{rules}
 use Rattle.verdicts.proofs.classify.classify.Goals as goal
 
 pub returns-in-NotRegistered : goal.returns-in-NotRegistered

@@ -1,7 +1,5 @@
 -- Intent by intent. Assumes nothing.
-use borrow.Author.Rules.{rules}
 use Rattle.verdicts.proofs.VerdictSteps.{steady-verdict, stable-verdict, pulse-verdict, maximum-verdict}
-use borrow.Author.Rules.{rules}
 use Rattle.verdicts.proofs.classify.classify_registered.Goals as goal
 
 pub returns-in-SteadyStateOnly : goal.returns-in-SteadyStateOnly

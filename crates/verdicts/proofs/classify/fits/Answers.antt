@@ -1,8 +1,6 @@
 -- Polarity, then unit. Assumes nothing.
 use mathlib.Core.Path.{◌∙◌, sym}
-use borrow.Author.Rules.{rules}
 use Rattle.verdicts.proofs.VerdictSteps.{polarity-differs, polarity-fits}
-use borrow.Author.Rules.{rules}
 use Rattle.verdicts.proofs.classify.fits.Goals as goal
 
 pub returns-then-polarity_code : goal.returns-then-polarity_code

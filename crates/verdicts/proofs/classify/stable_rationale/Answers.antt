@@ -1,9 +1,6 @@
 -- Wanted on, or off. Assumes nothing.
 use native.Mathlib.Omega.{arith}
-use mathlib.Core.Path.{◌∙◌}
-use borrow.Author.Rules.{rules}
 use Rattle.verdicts.proofs.VerdictSteps.{wanted-on, wanted-off, polarity-small}
-use borrow.Author.Rules.{rules}
 use Rattle.verdicts.proofs.classify.stable_rationale.Goals as goal
 
 pub overflow_add-result : goal.overflow_add-result

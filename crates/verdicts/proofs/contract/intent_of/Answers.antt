@@ -1,9 +1,5 @@
 -- Intent by intent. Assumes nothing.
-use mathlib.Core.Path.{◌∙◌}
-use Rattle.rules.specs.declared.transient.SignalIntent.TheVariants as Intent
-use borrow.Author.Rules.{rules}
 use Rattle.verdicts.proofs.ContractSteps.{steady-intent, stable-intent, pulse-intent, maximum-intent}
-use borrow.Author.Rules.{rules}
 use Rattle.verdicts.proofs.contract.intent_of.Goals as goal
 
 pub returns-then-intent-eq0 : goal.returns-then-intent-eq0
