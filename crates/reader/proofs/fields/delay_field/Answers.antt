@@ -5,7 +5,6 @@ use Rattle.rules.specs.Text.{delay_word}
 use Rattle.reader.specs.Lines.{NamedLineAt}
 use Rattle.reader.specs.Readings.{number_option}
 use Rattle.reader.proofs.FieldSteps.{number-missing, number-none, number-some}
-use borrow.Author.Rules.{rules}
 use Rattle.reader.proofs.fields.delay_field.Goals as goal
 
 pub returns-in_default : goal.returns-in_default

@@ -1,8 +1,5 @@
 -- `line_end` walks to the first line feed. Assumes nothing.
-use Prim.Native.Nat.{◌-◌}
-use lib.ListN.{length}
-use borrow.Author.Rules.{rules}
-use Rattle.reader.proofs.LineSteps.{Walked, walked_none, walked_more, walked_end, walked-past}
+use Rattle.reader.proofs.LineSteps.{walked_none, walked_more, walked_end, walked-past}
 use Rattle.reader.proofs.lines.line_end.Goals as goal
 
 pub loop-i-init : goal.loop-i-init

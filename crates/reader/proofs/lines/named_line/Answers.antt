@@ -2,7 +2,6 @@
 use mathlib.Core.Path.{sym, ◌∙◌}
 use native.Mathlib.Omega.{arith}
 use Rattle.reader.proofs.LineSteps.{line-missing, line_other, line-room, line-found}
-use borrow.Author.Rules.{rules}
 use Rattle.reader.proofs.lines.named_line.Goals as goal
 
 pub returns-then-text-end : goal.returns-then-text-end

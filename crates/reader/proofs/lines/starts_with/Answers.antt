@@ -1,9 +1,6 @@
 -- `starts_with` compares byte by byte. Assumes nothing.
-use mathlib.Core.Path.{◌≡◌, refl, sym, ◌∙◌}
-use Prim.Native.Nat.{◌-◌, ◌≤◌}
-use lib.ListN.{length, drop}
+use mathlib.Core.Path.{refl, sym, ◌∙◌}
 use borrow.Author.Rules.{rules}
-use Rattle.rules.specs.Text.{starts_with}
 use Rattle.reader.proofs.LineSteps.{name-ended, name-other, name-more, name-whole}
 use Rattle.reader.proofs.lines.starts_with.Goals as goal
 

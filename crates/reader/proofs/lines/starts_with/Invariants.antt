@@ -1,10 +1,8 @@
 -- `starts_with` compares byte by byte. Assumes nothing.
-use mathlib.Core.Path.{◌≡◌, refl, sym, ◌∙◌}
+use mathlib.Core.Path.{◌≡◌}
 use Prim.Native.Nat.{◌-◌, ◌≤◌}
 use lib.ListN.{length, drop}
-use borrow.Author.Rules.{rules}
 use Rattle.rules.specs.Text.{starts_with}
-use Rattle.reader.proofs.LineSteps.{name-ended, name-other, name-more, name-whole}
 use Rattle.reader.proofs.lines.starts_with.Given as goal
 
 abbrev pub invariant-loop-i : goal.invariant-loop-i

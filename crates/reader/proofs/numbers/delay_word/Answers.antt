@@ -1,7 +1,6 @@
 -- `delay_word` reads `none` or a byte. Assumes nothing.
 use mathlib.Core.Path.{sym, ◌∙◌}
 use Rattle.reader.proofs.NumberSteps.{delay-none, delay-number}
-use borrow.Author.Rules.{rules}
 use Rattle.reader.proofs.numbers.delay_word.Goals as goal
 
 pub returns-then-is_none : goal.returns-then-is_none

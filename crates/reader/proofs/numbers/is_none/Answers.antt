@@ -1,6 +1,5 @@
 -- `is_none` compares the bytes and their number. Assumes nothing.
 use mathlib.Core.Path.{sym, ◌∙◌}
-use borrow.Author.Rules.{rules}
 use Rattle.reader.proofs.numbers.is_none.Goals as goal
 
 -- LOST slice-aggregate-starts-with : tie.Need-slice-aggregate-starts-with

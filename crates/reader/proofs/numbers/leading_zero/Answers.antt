@@ -1,7 +1,6 @@
 -- `leading_zero` looks at the first of two digits or more. Assumes nothing.
 use mathlib.Core.Path.{sym}
 use Rattle.reader.proofs.NumberSteps.{leads-short, leads-long}
-use borrow.Author.Rules.{rules}
 use Rattle.reader.proofs.numbers.leading_zero.Goals as goal
 
 pub returns-then-digits-lt2 : goal.returns-then-digits-lt2

@@ -2,7 +2,6 @@
 use Prim.Native.Nat.{◌-◌}
 use native.Mathlib.Omega.{arith}
 use Rattle.reader.proofs.SignedSteps.{negated_fits, negated-is}
-use borrow.Author.Rules.{rules}
 use Rattle.reader.proofs.numbers.negated.Goals as goal
 
 pub overflow_sub-result : goal.overflow_sub-result

@@ -1,11 +1,7 @@
 -- `number_up_to` reads digit by digit. Assumes nothing.
-use mathlib.Core.Path.{◌≡◌, sym, ◌∙◌}
-use Prim.Native.Nat.{◌-◌, ◌≤◌}
+use mathlib.Core.Path.{sym, ◌∙◌}
 use native.Mathlib.Omega.{arith}
-use lib.ListN.{length, drop}
-use borrow.Author.Rules.{rules}
-use Rattle.rules.specs.Bytes.{number_up_to}
-use Rattle.reader.proofs.NumberSteps.{digits_from, stops-below, stops-above, stops-large, goes_on, ends, number-empty, number-leads, number-starts}
+use Rattle.reader.proofs.NumberSteps.{stops-below, stops-above, stops-large, goes_on, ends, number-empty, number-leads, number-starts}
 use Rattle.reader.proofs.numbers.number_up_to.Goals as goal
 
 pub returns-then-digits-eq0 : goal.returns-then-digits-eq0

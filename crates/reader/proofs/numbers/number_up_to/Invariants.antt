@@ -1,11 +1,9 @@
 -- `number_up_to` reads digit by digit. Assumes nothing.
-use mathlib.Core.Path.{◌≡◌, sym, ◌∙◌}
+use mathlib.Core.Path.{◌≡◌}
 use Prim.Native.Nat.{◌-◌, ◌≤◌}
-use native.Mathlib.Omega.{arith}
 use lib.ListN.{length, drop}
-use borrow.Author.Rules.{rules}
 use Rattle.rules.specs.Bytes.{number_up_to}
-use Rattle.reader.proofs.NumberSteps.{digits_from, stops-below, stops-above, stops-large, goes_on, ends, number-empty, number-leads, number-starts}
+use Rattle.reader.proofs.NumberSteps.{digits_from}
 use Rattle.reader.proofs.numbers.number_up_to.Given as goal
 
 abbrev pub invariant-loop-i : goal.invariant-loop-i

@@ -4,7 +4,6 @@ use native.Mathlib.Omega.{arith}
 use Rattle.reader.specs.Readings.{number_option}
 use Rattle.reader.proofs.NumberSteps.{number_fits, signed-empty}
 use Rattle.reader.proofs.SignedSteps.{minus-none, minus-zero, minus-some, plain-none, plain-some, plain_fits}
-use borrow.Author.Rules.{rules}
 use Rattle.reader.proofs.numbers.signed_number.Goals as goal
 
 pub returns-then-digits-eq0 : goal.returns-then-digits-eq0

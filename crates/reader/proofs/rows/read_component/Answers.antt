@@ -34,30 +34,23 @@ y-read c = subst (SignedFieldReadAt c.args.text.now c.in-Value-signed_field.at (
 z-read : (c : In-Value-signed_field-3) → SignedFieldReadAt c.args.text.now c.in-Value-signed_field-2.at (bytes "z=") (Signed.Value c.in-Value-signed_field-3.z c.in-Value-signed_field-3.at)
 z-read c = subst (SignedFieldReadAt c.args.text.now c.in-Value-signed_field-2.at (bytes "z=")) c.in-Value-signed_field-3.is c.signed_field-3.ensures
 
-
 pub returns-in_default : goal.returns-in_default
 returns-in_default c = component-0 (subst (FieldReadAt c.args.text.now c.args.at (bytes "id=") number64) c.in_default.is c.number_field.ensures)
-
 
 pub returns-in_default-number_field : goal.returns-in_default-number_field
 returns-in_default-number_field c = component-1 (id-read (goal.at.returns-in_default-number_field c).In-Value) (subst (FieldReadAt c.args.text.now c.in-Value.at (bytes "kind=") byte) c.in_default-number_field.is c.number_field-2.ensures)
 
-
 pub returns-in_default-delay_field : goal.returns-in_default-delay_field
 returns-in_default-delay_field c = component-2 (id-read (goal.at.returns-in_default-delay_field c).In-Value) (kind-read (goal.at.returns-in_default-delay_field c).In-Value-number_field) (subst (FieldReadAt c.args.text.now c.in-Value-number_field.at (bytes "delay=") delay_word) c.in_default-delay_field.is c.delay_field.ensures)
-
 
 pub returns-in_default-number_field-2 : goal.returns-in_default-number_field-2
 returns-in_default-number_field-2 c = component-3 (id-read (goal.at.returns-in_default-number_field-2 c).In-Value) (kind-read (goal.at.returns-in_default-number_field-2 c).In-Value-number_field) (delay-read (goal.at.returns-in_default-number_field-2 c).In-Value-delay_field) (subst (FieldReadAt c.args.text.now c.in-Value-delay_field.at (bytes "locked=") flag) c.in_default-number_field-2.is c.number_field-3.ensures)
 
-
 pub returns-in_default-signed_field : goal.returns-in_default-signed_field
 returns-in_default-signed_field c = component-4 (id-read (goal.at.returns-in_default-signed_field c).In-Value) (kind-read (goal.at.returns-in_default-signed_field c).In-Value-number_field) (delay-read (goal.at.returns-in_default-signed_field c).In-Value-delay_field) (locked-read (goal.at.returns-in_default-signed_field c).In-Value-number_field-2) (subst (SignedFieldReadAt c.args.text.now c.in-Value-number_field-2.at (bytes "x=")) c.in_default-signed_field.is c.signed_field.ensures)
 
-
 pub returns-in_default-signed_field-2 : goal.returns-in_default-signed_field-2
 returns-in_default-signed_field-2 c = component-5 (id-read (goal.at.returns-in_default-signed_field-2 c).In-Value) (kind-read (goal.at.returns-in_default-signed_field-2 c).In-Value-number_field) (delay-read (goal.at.returns-in_default-signed_field-2 c).In-Value-delay_field) (locked-read (goal.at.returns-in_default-signed_field-2 c).In-Value-number_field-2) (x-read (goal.at.returns-in_default-signed_field-2 c).In-Value-signed_field) (subst (SignedFieldReadAt c.args.text.now c.in-Value-signed_field.at (bytes "y=")) c.in_default-signed_field-2.is c.signed_field-2.ensures)
-
 
 pub returns-in_default-signed_field-3 : goal.returns-in_default-signed_field-3
 returns-in_default-signed_field-3 c = component-6 (id-read (goal.at.returns-in_default-signed_field-3 c).In-Value) (kind-read (goal.at.returns-in_default-signed_field-3 c).In-Value-number_field) (delay-read (goal.at.returns-in_default-signed_field-3 c).In-Value-delay_field) (locked-read (goal.at.returns-in_default-signed_field-3 c).In-Value-number_field-2) (x-read (goal.at.returns-in_default-signed_field-3 c).In-Value-signed_field) (y-read (goal.at.returns-in_default-signed_field-3 c).In-Value-signed_field-2) (subst (SignedFieldReadAt c.args.text.now c.in-Value-signed_field-2.at (bytes "z=")) c.in_default-signed_field-3.is c.signed_field-3.ensures)

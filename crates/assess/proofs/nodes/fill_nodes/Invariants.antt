@@ -1,0 +1,18 @@
+-- The components are gone through in order. Assumes nothing.
+use mathlib.Core.Bool.{cond}
+use Prim.Native.Nat.{ℕ, ◌-◌, ◌≤◌}
+use native.Mathlib.Omega.{arith}
+use borrow.Author.Rules.{rules}
+use lib.ListN.{length}
+use Rattle.rules.specs.Ordered.{key_at}
+use Rattle.rules.specs.Projection.{is_delayed_invert, compressible_kind}
+use Rattle.rules.proofs.Made.{Made, made_none, made_more}
+use Rattle.tables.proofs.Table.{delay-of-row}
+use Rattle.assess.proofs.NodeSteps.{inverts-of-row, compressible-of-row, delays-made, inverts-made, compressible-made}
+use Rattle.assess.proofs.nodes.fill_nodes.Given as goal
+
+abbrev pub invariant-loop-i : goal.invariant-loop-i
+invariant-loop-i l = (l.i ≤ length l.kinds) × Made (λ (j : ℕ). component_delay (key_at l.kinds j) (key_at l.delays j)) 0 l.initial.low l.low l.i × Made (λ (j : ℕ). cond (is_delayed_invert (kind_row (key_at l.kinds j)).behavior) 1 0) 0 l.initial.inverts l.inverts l.i × Made (λ (j : ℕ). cond (compressible_kind (kind_row (key_at l.kinds j)).node) 1 0) 0 l.initial.compressible l.compressible l.i
+
+abbrev pub decreases-loop-i : goal.decreases-loop-i
+decreases-loop-i l = length l.kinds - l.i

@@ -1,0 +1,23 @@
+-- The components are gone through in order. Assumes nothing.
+use native.Mathlib.Omega.{arith}
+use mathlib.Core.Path.{◌≡◌, refl, ◌∙◌}
+use Prim.Native.Nat.{◌-◌, ◌≤◌}
+use lib.ListN.{length}
+use borrow.Author.Rules.{rules}
+use Rattle.describe.proofs.ChosenSteps.{ChosenBelow, chosen_none, chosen_more, chosen-all}
+use Rattle.describe.proofs.devices.choose_devices.Goals as goal
+
+pub loop-i-init : goal.loop-i-init
+loop-i-init c = (chosen_none c.args.kinds.now c.args.chosen.now, omega arith, refl)
+
+pub choose-count-requires : goal.choose-count-requires
+choose-count-requires c = omega (arith, c.loop-i.invariant.0.few, c.requires, c.loop-i.invariant.2)
+
+pub loop-i-preserved : goal.loop-i-preserved
+loop-i-preserved c = (rw (c.choose-count.ensures.0, c.choose-count.ensures.1) (chosen_more c.args.kinds.now c.args.chosen.now c.loop-i.i c.loop-i.count c.loop-i.chosen c.is_device-wanted.result c.is_device-wanted.ensures (omega (arith, c.requires)) c.loop-i.invariant.0), omega arith, c.choose-count.auto.chosen ∙ c.loop-i.invariant.2)
+
+pub shape_of-chosen : goal.shape_of-chosen
+shape_of-chosen c = c.loop-i.invariant.2
+
+pub returns : goal.returns
+returns c = chosen-all c.args.kinds.now c.args.chosen.now c.loop-i.i c.loop-i.count c.loop-i.chosen (omega arith) c.loop-i.invariant.0

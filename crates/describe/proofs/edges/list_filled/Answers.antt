@@ -1,0 +1,11 @@
+-- What the edges take is filled in for each component, then the edges are gone through. Assumes nothing.
+use mathlib.Core.Path.{ap, ◌∙◌}
+use lib.ListN.{length}
+use Rattle.rules.specs.Lists.{written}
+use Rattle.describe.specs.Rows.{delay_at_position, behavior_at_position}
+use Rattle.describe.proofs.EdgeSteps.{column-read}
+use borrow.Author.Rules.{rules}
+use Rattle.describe.proofs.edges.list_filled.Goals as goal
+
+pub returns : goal.returns
+returns c = (c.list_rows.ensures.0, (c.list_rows.ensures.1.0, (c.list_rows.ensures.1.1.0 ∙ ap (written c.args.edge_minimums.now) (column-read (delay_at_position c.args.kinds.now c.args.delays.now) c.args.ticks.now _ (length c.args.ids.now) (length c.args.kinds.now) c.args.starts.now c.fill_timings.ensures.0 c.requires.0.kinds-length c.requires.0.rows.starts-below), (c.list_rows.ensures.1.1.1.0 ∙ ap (written c.args.edge_maximums.now) (column-read (delay_at_position c.args.kinds.now c.args.delays.now) c.args.ticks.now _ (length c.args.ids.now) (length c.args.kinds.now) c.args.starts.now c.fill_timings.ensures.0 c.requires.0.kinds-length c.requires.0.rows.starts-below), c.list_rows.ensures.1.1.1.1 ∙ ap (written c.args.edge_behaviors.now) (column-read (behavior_at_position c.args.kinds.now) c.args.behaviors.now _ (length c.args.ids.now) (length c.args.kinds.now) c.args.starts.now c.fill_timings.ensures.1 c.requires.0.kinds-length c.requires.0.rows.starts-below)))))
