@@ -4,6 +4,7 @@ use Prim.Native.Nat.{ℕ, ◌-◌, ◌≤◌}
 use native.Mathlib.Omega.{arith}
 use borrow.Author.Rules.{rules}
 use lib.ListN.{length}
+use Rattle.rules.specs.Kinds.{kind_row, component_delay}
 use Rattle.rules.specs.Ordered.{key_at}
 use Rattle.rules.specs.Projection.{is_delayed_invert, compressible_kind}
 use Rattle.rules.proofs.Made.{Made, made_none, made_more}
@@ -45,4 +46,4 @@ pub shape_of-compressible : goal.shape_of-compressible
 shape_of-compressible c = c.loop-i.invariant.3.size
 
 pub returns : goal.returns
-returns c = (delays-made c.args.kinds.now c.args.delays.now _ _ c.loop-i.i (omega arith) c.loop-i.invariant.1, (inverts-made c.args.kinds.now _ _ c.loop-i.i (omega arith) c.loop-i.invariant.2, compressible-made c.args.kinds.now _ _ c.loop-i.i (omega arith) c.loop-i.invariant.3))
+returns c = record { delays = delays-made c.args.kinds.now c.args.delays.now _ _ c.loop-i.i (omega arith) c.loop-i.invariant.1; inverts = inverts-made c.args.kinds.now _ _ c.loop-i.i (omega arith) c.loop-i.invariant.2; compressible = compressible-made c.args.kinds.now _ _ c.loop-i.i (omega arith) c.loop-i.invariant.3 }

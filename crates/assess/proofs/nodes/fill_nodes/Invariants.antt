@@ -4,6 +4,7 @@ use Prim.Native.Nat.{ℕ, ◌-◌, ◌≤◌}
 use native.Mathlib.Omega.{arith}
 use borrow.Author.Rules.{rules}
 use lib.ListN.{length}
+use Rattle.rules.specs.Kinds.{kind_row, component_delay}
 use Rattle.rules.specs.Ordered.{key_at}
 use Rattle.rules.specs.Projection.{is_delayed_invert, compressible_kind}
 use Rattle.rules.proofs.Made.{Made, made_none, made_more}

@@ -5,7 +5,7 @@ use Rattle.assess.proofs.project.project_scene.Goals as goal
 
 -- src/project.rt:96:5
 pub project_fronts-requires : goal.project_fronts-requires
-project_fronts-requires c = (nodes-lent c.requires fresh-room c.fill_nodes.ensures c.fill_nodes.auto.low c.fill_nodes.auto.inverts c.fill_nodes.auto.compressible, fronts-fit c.requires fresh-room c.fill_nodes.ensures c.fill_nodes.auto.low c.fill_nodes.auto.inverts c.fill_nodes.auto.compressible)
+project_fronts-requires c = (nodes-lent c.requires fresh-room (c.fill_nodes.ensures.delays, (c.fill_nodes.ensures.inverts, c.fill_nodes.ensures.compressible)) c.fill_nodes.auto.low c.fill_nodes.auto.inverts c.fill_nodes.auto.compressible, fronts-fit c.requires fresh-room (c.fill_nodes.ensures.delays, (c.fill_nodes.ensures.inverts, c.fill_nodes.ensures.compressible)) c.fill_nodes.auto.low c.fill_nodes.auto.inverts c.fill_nodes.auto.compressible)
 
 -- src/project.rt:67:1
 pub shape_of-marks : goal.shape_of-marks
@@ -45,4 +45,4 @@ shape_of-path_ids c = c.project_fronts.auto.path_ids
 
 -- src/project.rt:67:1
 pub returns : goal.returns
-returns c = projecting-nodes c.requires fresh-room c.fill_nodes.ensures c.fill_nodes.auto.low c.fill_nodes.auto.inverts c.fill_nodes.auto.compressible c.project_fronts.ensures
+returns c = projecting-nodes c.requires fresh-room (c.fill_nodes.ensures.delays, (c.fill_nodes.ensures.inverts, c.fill_nodes.ensures.compressible)) c.fill_nodes.auto.low c.fill_nodes.auto.inverts c.fill_nodes.auto.compressible c.project_fronts.ensures

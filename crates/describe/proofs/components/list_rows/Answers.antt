@@ -12,4 +12,4 @@ pub list_evidence-requires : goal.list_evidence-requires
 list_evidence-requires c = record { kinds-length = c.requires.0.kinds-length; chosen-below = c.requires.1; pairs = c.requires.0.sinks-length; fits = fits_kept c.requires.0.evidence-room (omega (arith, c.requires.2)) refl refl refl refl refl }
 
 pub returns : goal.returns
-returns c = record { device-components = c.list_devices.ensures.0; device-xs = c.list_devices.ensures.1.0; device-ys = c.list_devices.ensures.1.1.0; device-zs = c.list_devices.ensures.1.1.1.0; device-semantics = c.list_devices.ensures.1.1.1.1.0; device-delays = c.list_devices.ensures.1.1.1.1.1; evidence = c.list_evidence.ensures }
+returns c = record { device-components = c.list_devices.ensures.components; device-xs = c.list_devices.ensures.xs; device-ys = c.list_devices.ensures.ys; device-zs = c.list_devices.ensures.zs; device-semantics = c.list_devices.ensures.semantics; device-delays = c.list_devices.ensures.delays; evidence = c.list_evidence.ensures }

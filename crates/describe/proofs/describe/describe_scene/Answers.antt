@@ -34,7 +34,7 @@ list_components-devices-requires c = (components-room (component_lists c.args.id
 
 -- src/describe.rt:183:28
 pub overflow_add-result : goal.overflow_add-result
-overflow_add-result c = omega (arith, evidence-few (component_lists c.args.ids.now c.args.kinds.now c.args.delays.now c.args.locked.now c.args.xs.now c.args.ys.now c.args.zs.now) (connection_lists c.args.sources.now c.args.sinks.now c.args.transfers.now) (describe_lists c.args.edge_sources.now c.args.edge_sinks.now c.args.edge_minimums.now c.args.edge_maximums.now c.args.edge_behaviors.now c.args.device_components.now c.args.device_xs.now c.args.device_ys.now c.args.device_zs.now c.args.device_semantics.now c.args.device_delays.now c.args.evidence_kinds.now c.args.evidence_sources.now c.args.evidence_sinks.now c.args.evidence_components.now c.args.evidence_blocks.now) (sym c.in-Accepted.is ∙ c.test_scene-tested.ensures.answer) c.test_scene-tested.new.order c.test_scene-tested.new.starts c.test_scene-tested.new.stops c.test_scene-tested.result.edges (room_of _ _ _ (sym c.test_scene-tested.auto.order) (sym c.test_scene-tested.auto.starts) (sym c.test_scene-tested.auto.stops)) (c.test_scene-tested.ensures.accepted c.in-Accepted.is) c.list_components-devices.result c.list_components-devices.ensures.1)
+overflow_add-result c = omega (arith, evidence-few (component_lists c.args.ids.now c.args.kinds.now c.args.delays.now c.args.locked.now c.args.xs.now c.args.ys.now c.args.zs.now) (connection_lists c.args.sources.now c.args.sinks.now c.args.transfers.now) (describe_lists c.args.edge_sources.now c.args.edge_sinks.now c.args.edge_minimums.now c.args.edge_maximums.now c.args.edge_behaviors.now c.args.device_components.now c.args.device_xs.now c.args.device_ys.now c.args.device_zs.now c.args.device_semantics.now c.args.device_delays.now c.args.evidence_kinds.now c.args.evidence_sources.now c.args.evidence_sinks.now c.args.evidence_components.now c.args.evidence_blocks.now) (sym c.in-Accepted.is ∙ c.test_scene-tested.ensures.answer) c.test_scene-tested.new.order c.test_scene-tested.new.starts c.test_scene-tested.new.stops c.test_scene-tested.result.edges (room_of _ _ _ (sym c.test_scene-tested.auto.order) (sym c.test_scene-tested.auto.starts) (sym c.test_scene-tested.auto.stops)) (c.test_scene-tested.ensures.accepted c.in-Accepted.is) c.list_components-devices.result c.list_components-devices.ensures.counted)
 
 -- src/describe.rt:66:1
 pub returns-in-Refused : goal.returns-in-Refused
@@ -90,4 +90,4 @@ shape_of-evidence_kinds c = c.list_components-devices.auto.evidence_kinds
 
 -- src/describe.rt:66:1
 pub returns-in-Accepted : goal.returns-in-Accepted
-returns-in-Accepted c = call-described (component_lists c.args.ids.now c.args.kinds.now c.args.delays.now c.args.locked.now c.args.xs.now c.args.ys.now c.args.zs.now) (connection_lists c.args.sources.now c.args.sinks.now c.args.transfers.now) (describe_lists c.args.edge_sources.now c.args.edge_sinks.now c.args.edge_minimums.now c.args.edge_maximums.now c.args.edge_behaviors.now c.args.device_components.now c.args.device_xs.now c.args.device_ys.now c.args.device_zs.now c.args.device_semantics.now c.args.device_delays.now c.args.evidence_kinds.now c.args.evidence_sources.now c.args.evidence_sinks.now c.args.evidence_components.now c.args.evidence_blocks.now) (sym c.in-Accepted.is ∙ c.test_scene-tested.ensures.answer) c.test_scene-tested.new.order c.test_scene-tested.new.starts c.test_scene-tested.new.stops c.test_scene-tested.result.edges (room_of _ _ _ (sym c.test_scene-tested.auto.order) (sym c.test_scene-tested.auto.starts) (sym c.test_scene-tested.auto.stops)) (c.test_scene-tested.ensures.accepted c.in-Accepted.is) (describe_lists c.list_timed_edges.new.edge_sources c.list_timed_edges.new.edge_sinks c.list_timed_edges.new.edge_minimums c.list_timed_edges.new.edge_maximums c.list_timed_edges.new.edge_behaviors c.list_components-devices.new.device_components c.list_components-devices.new.device_xs c.list_components-devices.new.device_ys c.list_components-devices.new.device_zs c.list_components-devices.new.device_semantics c.list_components-devices.new.device_delays c.list_components-devices.new.evidence_kinds c.list_components-devices.new.evidence_sources c.list_components-devices.new.evidence_sinks c.list_components-devices.new.evidence_components c.list_components-devices.new.evidence_blocks) c.list_components-devices.result c.list_timed_edges.ensures.0 c.list_timed_edges.ensures.1.0 c.list_timed_edges.ensures.1.1.0 c.list_timed_edges.ensures.1.1.1.0 c.list_timed_edges.ensures.1.1.1.1 c.list_components-devices.ensures.0 c.list_components-devices.ensures.1
+returns-in-Accepted c = call-described (component_lists c.args.ids.now c.args.kinds.now c.args.delays.now c.args.locked.now c.args.xs.now c.args.ys.now c.args.zs.now) (connection_lists c.args.sources.now c.args.sinks.now c.args.transfers.now) (describe_lists c.args.edge_sources.now c.args.edge_sinks.now c.args.edge_minimums.now c.args.edge_maximums.now c.args.edge_behaviors.now c.args.device_components.now c.args.device_xs.now c.args.device_ys.now c.args.device_zs.now c.args.device_semantics.now c.args.device_delays.now c.args.evidence_kinds.now c.args.evidence_sources.now c.args.evidence_sinks.now c.args.evidence_components.now c.args.evidence_blocks.now) (sym c.in-Accepted.is ∙ c.test_scene-tested.ensures.answer) c.test_scene-tested.new.order c.test_scene-tested.new.starts c.test_scene-tested.new.stops c.test_scene-tested.result.edges (room_of _ _ _ (sym c.test_scene-tested.auto.order) (sym c.test_scene-tested.auto.starts) (sym c.test_scene-tested.auto.stops)) (c.test_scene-tested.ensures.accepted c.in-Accepted.is) (describe_lists c.list_timed_edges.new.edge_sources c.list_timed_edges.new.edge_sinks c.list_timed_edges.new.edge_minimums c.list_timed_edges.new.edge_maximums c.list_timed_edges.new.edge_behaviors c.list_components-devices.new.device_components c.list_components-devices.new.device_xs c.list_components-devices.new.device_ys c.list_components-devices.new.device_zs c.list_components-devices.new.device_semantics c.list_components-devices.new.device_delays c.list_components-devices.new.evidence_kinds c.list_components-devices.new.evidence_sources c.list_components-devices.new.evidence_sinks c.list_components-devices.new.evidence_components c.list_components-devices.new.evidence_blocks) c.list_components-devices.result c.list_timed_edges.ensures.sources c.list_timed_edges.ensures.sinks c.list_timed_edges.ensures.minimums c.list_timed_edges.ensures.maximums c.list_timed_edges.ensures.behaviors c.list_components-devices.ensures.lists c.list_components-devices.ensures.counted

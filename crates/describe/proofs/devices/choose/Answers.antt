@@ -4,4 +4,4 @@ use borrow.Author.Rules.{rules}
 use Rattle.describe.proofs.devices.choose.Goals as goal
 
 pub returns-then-wanted : goal.returns-then-wanted
-returns-then-wanted c = rw c.if-wanted.true (refl, refl)
+returns-then-wanted c = rw c.if-wanted.true (record { positions = refl; counted = refl })

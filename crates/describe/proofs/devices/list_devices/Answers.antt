@@ -103,4 +103,4 @@ pub shape_of-device_delays : goal.shape_of-device_delays
 shape_of-device_delays c = c.loop-k.invariant.6.size
 
 pub returns : goal.returns
-returns c = (made_all (key_at c.args.ids.now) c.args.chosen.now 0 0 _ _ c.loop-k.k (omega arith) c.loop-k.invariant.1, (made_all (place_at c.args.xs.now) c.args.chosen.now 0 0 _ _ c.loop-k.k (omega arith) c.loop-k.invariant.2, (made_all (place_at c.args.ys.now) c.args.chosen.now 0 0 _ _ c.loop-k.k (omega arith) c.loop-k.invariant.3, (made_all (place_at c.args.zs.now) c.args.chosen.now 0 0 _ _ c.loop-k.k (omega arith) c.loop-k.invariant.4, (made_all (semantics_at_position c.args.kinds.now) c.args.chosen.now 0 0 _ _ c.loop-k.k (omega arith) c.loop-k.invariant.5, made_all (delay_at_position c.args.kinds.now c.args.delays.now) c.args.chosen.now 0 0 _ _ c.loop-k.k (omega arith) c.loop-k.invariant.6)))))
+returns c = record { components = made_all (key_at c.args.ids.now) c.args.chosen.now 0 0 _ _ c.loop-k.k (omega arith) c.loop-k.invariant.1; xs = made_all (place_at c.args.xs.now) c.args.chosen.now 0 0 _ _ c.loop-k.k (omega arith) c.loop-k.invariant.2; ys = made_all (place_at c.args.ys.now) c.args.chosen.now 0 0 _ _ c.loop-k.k (omega arith) c.loop-k.invariant.3; zs = made_all (place_at c.args.zs.now) c.args.chosen.now 0 0 _ _ c.loop-k.k (omega arith) c.loop-k.invariant.4; semantics = made_all (semantics_at_position c.args.kinds.now) c.args.chosen.now 0 0 _ _ c.loop-k.k (omega arith) c.loop-k.invariant.5; delays = made_all (delay_at_position c.args.kinds.now c.args.delays.now) c.args.chosen.now 0 0 _ _ c.loop-k.k (omega arith) c.loop-k.invariant.6 }

@@ -39,4 +39,4 @@ pub shape_of-behaviors : goal.shape_of-behaviors
 shape_of-behaviors c = c.loop-i.invariant.2.size
 
 pub returns : goal.returns
-returns c = (column-filled (delay_at_position c.args.kinds.now c.args.delays.now) _ _ (length c.args.kinds.now) c.loop-i.i (omega arith) c.loop-i.invariant.1, column-filled (behavior_at_position c.args.kinds.now) _ _ (length c.args.kinds.now) c.loop-i.i (omega arith) c.loop-i.invariant.2)
+returns c = record { ticks = column-filled (delay_at_position c.args.kinds.now c.args.delays.now) _ _ (length c.args.kinds.now) c.loop-i.i (omega arith) c.loop-i.invariant.1; behaviors = column-filled (behavior_at_position c.args.kinds.now) _ _ (length c.args.kinds.now) c.loop-i.i (omega arith) c.loop-i.invariant.2 }

@@ -8,4 +8,4 @@ use borrow.Author.Rules.{rules}
 use Rattle.describe.proofs.edges.list_filled.Goals as goal
 
 pub returns : goal.returns
-returns c = (c.list_rows.ensures.0, (c.list_rows.ensures.1.0, (c.list_rows.ensures.1.1.0 ∙ ap (written c.args.edge_minimums.now) (column-read (delay_at_position c.args.kinds.now c.args.delays.now) c.args.ticks.now _ (length c.args.ids.now) (length c.args.kinds.now) c.args.starts.now c.fill_timings.ensures.0 c.requires.0.kinds-length c.requires.0.rows.starts-below), (c.list_rows.ensures.1.1.1.0 ∙ ap (written c.args.edge_maximums.now) (column-read (delay_at_position c.args.kinds.now c.args.delays.now) c.args.ticks.now _ (length c.args.ids.now) (length c.args.kinds.now) c.args.starts.now c.fill_timings.ensures.0 c.requires.0.kinds-length c.requires.0.rows.starts-below), c.list_rows.ensures.1.1.1.1 ∙ ap (written c.args.edge_behaviors.now) (column-read (behavior_at_position c.args.kinds.now) c.args.behaviors.now _ (length c.args.ids.now) (length c.args.kinds.now) c.args.starts.now c.fill_timings.ensures.1 c.requires.0.kinds-length c.requires.0.rows.starts-below)))))
+returns c = record { sources = c.list_rows.ensures.sources; sinks = c.list_rows.ensures.sinks; minimums = c.list_rows.ensures.minimums ∙ ap (written c.args.edge_minimums.now) (column-read (delay_at_position c.args.kinds.now c.args.delays.now) c.args.ticks.now _ (length c.args.ids.now) (length c.args.kinds.now) c.args.starts.now c.fill_timings.ensures.ticks c.requires.0.kinds-length c.requires.0.rows.starts-below); maximums = c.list_rows.ensures.maximums ∙ ap (written c.args.edge_maximums.now) (column-read (delay_at_position c.args.kinds.now c.args.delays.now) c.args.ticks.now _ (length c.args.ids.now) (length c.args.kinds.now) c.args.starts.now c.fill_timings.ensures.ticks c.requires.0.kinds-length c.requires.0.rows.starts-below); behaviors = c.list_rows.ensures.behaviors ∙ ap (written c.args.edge_behaviors.now) (column-read (behavior_at_position c.args.kinds.now) c.args.behaviors.now _ (length c.args.ids.now) (length c.args.kinds.now) c.args.starts.now c.fill_timings.ensures.behaviors c.requires.0.kinds-length c.requires.0.rows.starts-below) }

@@ -84,4 +84,4 @@ pub shape_of-edge_behaviors : goal.shape_of-edge_behaviors
 shape_of-edge_behaviors c = c.loop-e.invariant.5.size
 
 pub returns : goal.returns
-returns c = (made_all (key_at c.args.ids.now) c.args.starts.now 0 0 _ _ c.loop-e.e (omega arith) c.loop-e.invariant.1, (made_all (key_at c.args.ids.now) c.args.stops.now 0 0 _ _ c.loop-e.e (omega (arith, c.requires.0.pairs)) c.loop-e.invariant.2, (made_all (key_at c.args.ticks.now) c.args.starts.now 0 0 _ _ c.loop-e.e (omega arith) c.loop-e.invariant.3, (made_all (key_at c.args.ticks.now) c.args.starts.now 0 0 _ _ c.loop-e.e (omega arith) c.loop-e.invariant.4, made_all (key_at c.args.behaviors.now) c.args.starts.now 0 0 _ _ c.loop-e.e (omega arith) c.loop-e.invariant.5))))
+returns c = record { sources = made_all (key_at c.args.ids.now) c.args.starts.now 0 0 _ _ c.loop-e.e (omega arith) c.loop-e.invariant.1; sinks = made_all (key_at c.args.ids.now) c.args.stops.now 0 0 _ _ c.loop-e.e (omega (arith, c.requires.0.pairs)) c.loop-e.invariant.2; minimums = made_all (key_at c.args.ticks.now) c.args.starts.now 0 0 _ _ c.loop-e.e (omega arith) c.loop-e.invariant.3; maximums = made_all (key_at c.args.ticks.now) c.args.starts.now 0 0 _ _ c.loop-e.e (omega arith) c.loop-e.invariant.4; behaviors = made_all (key_at c.args.behaviors.now) c.args.starts.now 0 0 _ _ c.loop-e.e (omega arith) c.loop-e.invariant.5 }

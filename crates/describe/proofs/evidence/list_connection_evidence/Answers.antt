@@ -62,4 +62,4 @@ pub shape_of-evidence_blocks : goal.shape_of-evidence_blocks
 shape_of-evidence_blocks c = c.loop-j.invariant.5.size
 
 pub returns : goal.returns
-returns c = (made_all (λ (x : ℕ). 0) c.args.sources.now 0 0 _ _ c.loop-j.j (omega arith) c.loop-j.invariant.1, (made_all (λ (x : ℕ). x) c.args.sources.now 0 0 _ _ c.loop-j.j (omega arith) c.loop-j.invariant.2, (made_all (λ (x : ℕ). x) c.args.sinks.now 0 0 _ _ c.loop-j.j (omega (arith, c.requires.pairs)) c.loop-j.invariant.3, (made_all (λ (x : ℕ). 0) c.args.sources.now 0 0 _ _ c.loop-j.j (omega arith) c.loop-j.invariant.4, made_all (λ (x : ℕ). 0) c.args.sources.now 0 0 _ _ c.loop-j.j (omega arith) c.loop-j.invariant.5))))
+returns c = record { kinds = made_all (λ (x : ℕ). 0) c.args.sources.now 0 0 _ _ c.loop-j.j (omega arith) c.loop-j.invariant.1; sources = made_all (λ (x : ℕ). x) c.args.sources.now 0 0 _ _ c.loop-j.j (omega arith) c.loop-j.invariant.2; sinks = made_all (λ (x : ℕ). x) c.args.sinks.now 0 0 _ _ c.loop-j.j (omega (arith, c.requires.pairs)) c.loop-j.invariant.3; components = made_all (λ (x : ℕ). 0) c.args.sources.now 0 0 _ _ c.loop-j.j (omega arith) c.loop-j.invariant.4; blocks = made_all (λ (x : ℕ). 0) c.args.sources.now 0 0 _ _ c.loop-j.j (omega arith) c.loop-j.invariant.5 }

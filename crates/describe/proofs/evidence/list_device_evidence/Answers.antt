@@ -66,4 +66,4 @@ pub shape_of-evidence_blocks : goal.shape_of-evidence_blocks
 shape_of-evidence_blocks c = c.loop-k.invariant.5.size
 
 pub returns : goal.returns
-returns c = (made_all (λ (i : ℕ). 1) c.args.chosen.now 0 _ _ _ c.loop-k.k (omega arith) c.loop-k.invariant.1, (made_all (λ (i : ℕ). 0) c.args.chosen.now 0 _ _ _ c.loop-k.k (omega arith) c.loop-k.invariant.2, (made_all (λ (i : ℕ). 0) c.args.chosen.now 0 _ _ _ c.loop-k.k (omega arith) c.loop-k.invariant.3, (made_all (key_at c.args.ids.now) c.args.chosen.now 0 _ _ _ c.loop-k.k (omega arith) c.loop-k.invariant.4, made_all (key_at c.args.kinds.now) c.args.chosen.now 0 _ _ _ c.loop-k.k (omega arith) c.loop-k.invariant.5))))
+returns c = record { kinds = made_all (λ (i : ℕ). 1) c.args.chosen.now 0 _ _ _ c.loop-k.k (omega arith) c.loop-k.invariant.1; sources = made_all (λ (i : ℕ). 0) c.args.chosen.now 0 _ _ _ c.loop-k.k (omega arith) c.loop-k.invariant.2; sinks = made_all (λ (i : ℕ). 0) c.args.chosen.now 0 _ _ _ c.loop-k.k (omega arith) c.loop-k.invariant.3; components = made_all (key_at c.args.ids.now) c.args.chosen.now 0 _ _ _ c.loop-k.k (omega arith) c.loop-k.invariant.4; blocks = made_all (key_at c.args.kinds.now) c.args.chosen.now 0 _ _ _ c.loop-k.k (omega arith) c.loop-k.invariant.5 }
