@@ -2,7 +2,12 @@
 // lengths, the text, the report. Each text is answered anew and held against its report, byte for byte.
 #![tactic(auto)]
 
+ghost use Rattle.rules.specs.Report.{report_of};
+ghost use Rattle.std.specs.Io.{ReadsAtMost};
+ghost use Rattle.std.specs.Prelude.{◌≡◌, ◌≤◌, ◌↔◌, length, take, IsTrue};
 
+use std::io;
+use std::io::{Read, Write};
 use text::answer::{REPORT_ROOM, report_text};
 
 // Room for a text somewhat over the limit, and for the longest report of the sample.
@@ -11,7 +16,7 @@ const TEXT_ROOM: usize = 65600;
 const WANTED_ROOM: usize = 262144;
 
 // What came of one text of the sample.
-#[derive(Drop)]
+#[derive(Clone, Copy)]
 enum Outcome {
     Ended,
     BrokenOff,
@@ -35,38 +40,47 @@ fn with_digit(number: usize, byte: u8) -> usize {
 
 fn number(digits: &[u8]) -> usize {
     let mut number = 0;
-    let mut i = 0;
-    while i < digits.len() {
-        number = with_digit(number, digits[i]);
-        i += 1;
+    for byte in digits {
+        number = with_digit(number, *byte);
     }
     number
 }
 
-// Whether the next bytes of the input could be read, so many of them.
-fn read_part(space: &mut [u8], n: usize) -> bool {
-    if space.len() < n {
-        return false;
+// Reads until `space` is full or the input ends; answers how many bytes stand at its front.
+fn read_full<R: Read>(input: &mut R, space: &mut [u8]) -> io::Result<usize>
+    ensures { ReadsAtMost result space.new }
+{
+    let mut done = 0;
+    while done < space.len() {
+        let n = input.read(&mut space[done..])?;
+        if n == 0 {
+            break;
+        }
+        done += n;
     }
-    io::read_full(0, &mut space[..n]) == n
+    Ok(done)
+}
+
+// Whether the next bytes of the input could be read, so many of them.
+fn read_part<R: Read>(input: &mut R, space: &mut [u8], n: usize) -> io::Result<bool> {
+    if space.len() < n {
+        return Ok(false);
+    }
+    let got = read_full(input, &mut space[..n])?;
+    Ok(got == n)
 }
 
 // Whether the first bytes of both are the same, so many of them.
-fn same(one: &[u8], other: &[u8], n: usize) -> bool {
+fn same(one: &[u8], other: &[u8], n: usize) -> bool
+    ensures { IsTrue result ↔ ((n ≤ length one.now) × (n ≤ length other.now) × (take n one.now ≡ take n other.now)) }
+{
     if one.len() < n {
         return false;
     }
     if other.len() < n {
         return false;
     }
-    let mut i = 0;
-    while i < n {
-        if one[i] != other[i] {
-            return false;
-        }
-        i += 1;
-    }
-    true
+    one[..n] == other[..n]
 }
 
 // Whether the text is answered by the report that is wanted; behind either may be bytes of earlier ones.
@@ -76,7 +90,9 @@ fn answered(
     wanted: &[u8],
     report_length: usize,
     out: &mut [u8; REPORT_ROOM],
-) -> bool {
+) -> bool
+    ensures { IsTrue result ↔ ((text_length ≤ length text.now) × (report_length ≤ length wanted.now) × (take report_length wanted.now ≡ report_of (take text_length text.now))) }
+{
     if text.len() < text_length {
         return false;
     }
@@ -87,44 +103,50 @@ fn answered(
     same(wanted, out, n)
 }
 
-fn replay_case(
+fn replay_case<R: Read>(
+    input: &mut R,
     text: &mut [u8],
     wanted: &mut [u8],
     out: &mut [u8; REPORT_ROOM],
     text_length: usize,
     report_length: usize,
-) -> Outcome {
-    if !read_part(&mut *text, text_length) {
-        return Outcome::BrokenOff;
+) -> io::Result<Outcome> {
+    if !read_part(input, &mut *text, text_length)? {
+        return Ok(Outcome::BrokenOff);
     }
-    if !read_part(&mut *wanted, report_length) {
-        return Outcome::BrokenOff;
+    if !read_part(input, &mut *wanted, report_length)? {
+        return Ok(Outcome::BrokenOff);
     }
     if answered(text, text_length, wanted, report_length, out) {
-        Outcome::Same
+        Ok(Outcome::Same)
     } else {
-        Outcome::Differs
+        Ok(Outcome::Differs)
     }
 }
 
 // A header is two numbers of eight digits, each with a byte behind it.
-fn replay_next(text: &mut [u8], wanted: &mut [u8], out: &mut [u8; REPORT_ROOM]) -> Outcome {
+fn replay_next<R: Read>(
+    input: &mut R,
+    text: &mut [u8],
+    wanted: &mut [u8],
+    out: &mut [u8; REPORT_ROOM],
+) -> io::Result<Outcome> {
     let mut header = [0u8; 9];
-    let got = io::read_full(0, &mut header);
+    let got = read_full(input, &mut header)?;
     if got == 0 {
-        return Outcome::Ended;
+        return Ok(Outcome::Ended);
     }
     let text_length = number(&header);
-    let more = io::read_full(0, &mut header);
+    let more = read_full(input, &mut header)?;
     if more < 9 {
-        return Outcome::BrokenOff;
+        return Ok(Outcome::BrokenOff);
     }
     let report_length = number(&header);
-    replay_case(text, wanted, out, text_length, report_length)
+    replay_case(input, text, wanted, out, text_length, report_length)
 }
 
 // What has come of the texts so far; the first that differs is numbered from 1.
-#[derive(Drop)]
+#[derive(Clone, Copy)]
 struct Tally {
     count: u64,
     differ: u64,
@@ -145,11 +167,11 @@ fn counted(tally: Tally, outcome: Outcome) -> Tally {
             next.broken_off = true;
         }
         Outcome::Same => {
-            next.count = std::num::wrapping_add_u64(tally.count, 1);
+            next.count = tally.count.wrapping_add(1);
         }
         Outcome::Differs => {
-            next.count = std::num::wrapping_add_u64(tally.count, 1);
-            next.differ = std::num::wrapping_add_u64(tally.differ, 1);
+            next.count = tally.count.wrapping_add(1);
+            next.differ = tally.differ.wrapping_add(1);
             if tally.differ == 0 {
                 next.first = next.count;
             }
@@ -158,23 +180,29 @@ fn counted(tally: Tally, outcome: Outcome) -> Tally {
     next
 }
 
-fn print_tally(tally: Tally) {
-    io::print_decimal(1, tally.count);
-    io::write_all(1, b" texts replayed, ");
-    io::print_decimal(1, tally.differ);
-    io::write_all(1, b" differ");
+fn print_tally<W: Write>(output: &mut W, tally: Tally) -> io::Result<()> {
+    write!(
+        output,
+        "{} texts replayed, {} differ",
+        tally.count, tally.differ
+    )?;
     if tally.differ > 0 {
-        io::write_all(1, b", the first is ");
-        io::print_decimal(1, tally.first);
+        write!(output, ", the first is {}", tally.first)?;
     }
     if tally.broken_off {
-        io::write_all(1, b"; the sample breaks off");
+        write!(output, "; the sample breaks off")?;
     }
-    io::write_all(1, b"\n");
+    writeln!(output)
 }
 
 // A proved loop has to end: a sample has fewer than a million texts.
-fn replay_all(text: &mut [u8], wanted: &mut [u8], out: &mut [u8; REPORT_ROOM]) {
+fn replay_all<R: Read, W: Write>(
+    input: &mut R,
+    output: &mut W,
+    text: &mut [u8],
+    wanted: &mut [u8],
+    out: &mut [u8; REPORT_ROOM],
+) -> io::Result<()> {
     let mut tally = Tally {
         count: 0,
         differ: 0,
@@ -182,27 +210,36 @@ fn replay_all(text: &mut [u8], wanted: &mut [u8], out: &mut [u8; REPORT_ROOM]) {
         ended: false,
         broken_off: false,
     };
-    let mut turns = 1000000u64;
-    while turns > 0 {
-        let outcome = replay_next(&mut *text, &mut *wanted, &mut *out);
+    for _ in 0..1000000u64 {
+        let outcome = replay_next(input, &mut *text, &mut *wanted, &mut *out)?;
         tally = counted(tally, outcome);
         if tally.ended {
-            turns = 0;
-        } else {
-            turns -= 1;
+            break;
         }
     }
-    print_tally(tally);
+    print_tally(output, tally)
 }
 
 // Arrays behind references: their lengths are known by their types, so nothing computes on a million zeros.
-fn lend(text: &mut [u8; TEXT_ROOM], wanted: &mut [u8; WANTED_ROOM], out: &mut [u8; REPORT_ROOM]) {
-    replay_all(text, wanted, out);
+fn lend<R: Read, W: Write>(
+    input: &mut R,
+    output: &mut W,
+    text: &mut [u8; TEXT_ROOM],
+    wanted: &mut [u8; WANTED_ROOM],
+    out: &mut [u8; REPORT_ROOM],
+) -> io::Result<()> {
+    replay_all(input, output, text, wanted, out)
 }
 
-fn main() {
+fn main(rt: HostRuntime) -> io::Result<()> {
     let mut text = [0u8; TEXT_ROOM];
     let mut wanted = [0u8; WANTED_ROOM];
     let mut out = [0u8; REPORT_ROOM];
-    lend(&mut text, &mut wanted, &mut out);
+    lend(
+        &mut rt.stdin(),
+        &mut rt.stdout(),
+        &mut text,
+        &mut wanted,
+        &mut out,
+    )
 }
