@@ -8,9 +8,9 @@ use Rattle.rules.specs.Lists.{indices, written}
 use Rattle.rules.specs.Graph.{Edge}
 use Rattle.rules.specs.Scene.{Component, Scene, id_of, delay_at, edges}
 use Rattle.rules.specs.Labels.{Label, unsettled, between, label, labels, settled_flag, low_sum, high_sum}
-use Rattle.rules.specs.Reasons.{Reason, unequal_reconvergent_delay, feedback_loop, stateful_or_mechanical_device, locked_repeater, reason_kind, reason_component, reason_minimum, reason_maximum, reasons, feedback}
+use Rattle.rules.specs.Reasons.{Reason, unequal_reconvergent_delay, feedback_loop, stateful_or_mechanical_device, locked_repeater, reason_kind, reason_component, reason_minimum, reason_maximum, reasons, feedback, pattern}
 use Rattle.rules.specs.Projection.{ProjectedEdge, projected}
-use Rattle.rules.specs.Report.{reason_line, projected_lines, label_lines, report}
+use Rattle.rules.specs.Report.{reason_line, projected_lines, label_lines, pattern_text, report}
 use Rattle.rules.specs.Assess.{AssessLists, stored_edge, AssessedBy, assessment}
 use Rattle.rules.specs.declared.answers.Assessment.{Assessment}
 use Rattle.rules.specs.declared.answers.Checked.TheVariants.{Accepted}
@@ -22,7 +22,7 @@ use Rattle.rules.proofs.Written.{written-front, written-length}
 use Rattle.laws.proofs.StoredEdges.{stored_edges, field_back, stored_back}
 use Rattle.laws.proofs.Room.{labels-fit}
 use Rattle.laws.proofs.CallEntries.{assessed-same}
-use Rattle.text.specs.ReportLists.{rows, reason_of, reason_row, projected_row, label_of, label_row, printed_lists, report_by, ReportWithin}
+use Rattle.text.specs.ReportLists.{rows, feedback_of, reason_of, reason_row, projected_row, label_of, label_row, printed_lists, report_by, ReportWithin}
 use Rattle.text.proofs.PutSteps.{rows_are}
 
 -- An entry read back
@@ -98,7 +98,10 @@ module _ (s : Scene) (old new : AssessLists) {answer : SceneAnswer} (call : Asse
 
   by-assessment : report_by (assessment cs es) (map id_of cs) (printed_lists new) ≡ report cs es
   unfolding report_by report assessment projected_row stored_edge
-  by-assessment = rw (feedback-back, reasons-back (feedback cs es), edges-back, labels-back)
+  by-assessment =
+      let e : feedback_of (assessment cs es) (printed_lists new) ≡ feedback cs es = feedback-back in
+      let p : pattern_text (feedback_of (assessment cs es) (printed_lists new)) (pattern cs es) ≡ pattern_text (feedback cs es) (pattern cs es) = ap (λ f. pattern_text f (pattern cs es)) e in
+      rw (p, e, reasons-back (feedback cs es), edges-back, labels-back)
 
 -- The report, and that its entries stand in the lists
 

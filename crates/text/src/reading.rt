@@ -17,14 +17,14 @@ pub const COMPONENT_ROOM: usize = 2048;
 pub const CONNECTION_ROOM: usize = 4096;
 
 // Where the text goes on after some rows, with the number of the line there; or the first line that breaks the form.
-#[derive(Drop)]
+#[derive(Clone, Copy)]
 pub enum RowsRead {
     Broken { line: u64 },
     Read { next: usize, line: u64 },
 }
 
 // The same of a count and as many rows.
-#[derive(Drop)]
+#[derive(Clone, Copy)]
 pub enum CountedRead {
     Broken {
         line: u64,
@@ -37,7 +37,7 @@ pub enum CountedRead {
 }
 
 // How many components and connections were read; or the first line that breaks the form.
-#[derive(Drop)]
+#[derive(Clone, Copy)]
 pub enum SceneRead {
     Broken {
         line: u64,

@@ -1,0 +1,16 @@
+-- The name, the number and the line's end. Assumes nothing.
+use Rattle.text.proofs.PutSteps.{room-first, room_next, put_next}
+use borrow.Author.Rules.{rules}
+use Rattle.text.proofs.put.put_line.Goals as goal
+
+pub put_bytes-at-requires : goal.put_bytes-at-requires
+put_bytes-at-requires c = room-first _ _ c.requires
+
+pub put_number-at-requires : goal.put_number-at-requires
+put_number-at-requires c = room-first _ _ (room_next c.put_bytes-at.ensures _ c.requires)
+
+pub put_bytes-requires : goal.put_bytes-requires
+put_bytes-requires c = room_next c.put_number-at.ensures _ (room_next c.put_bytes-at.ensures _ c.requires)
+
+pub returns : goal.returns
+returns c = put_next c.put_bytes-at.ensures (put_next c.put_number-at.ensures c.put_bytes.ensures)
