@@ -17,7 +17,6 @@ use Rattle.text.specs.Filled.{SceneFound, SceneFilled}
 use Rattle.text.specs.ReportLists.{Room, Put}
 use Rattle.text.specs.Answers.{FieldsRead}
 use Rattle.text.specs.declared.reading.SceneRead.{SceneRead}
-use Rattle.text.specs.declared.reading.SceneRead.TheVariants as SceneRead
 
 -- what reading told, by its case
 module _ (text : List ℕ) (l : ComponentLists) (m : ConnectionLists) (r : SceneRead) (filled : SceneFilled text l m r) where

@@ -9,11 +9,8 @@ use Rattle.reader.specs.Readings.{ComponentReadAt, ConnectionReadAt, FieldReadAt
 use Rattle.reader.specs.declared.rows.ComponentRow.{ComponentRow}
 use Rattle.reader.specs.declared.rows.ConnectionRow.{ConnectionRow}
 use Rattle.reader.specs.declared.rows.ComponentRead.{ComponentRead}
-use Rattle.reader.specs.declared.rows.ComponentRead.TheVariants as ComponentRead
 use Rattle.reader.specs.declared.rows.ConnectionRead.{ConnectionRead}
-use Rattle.reader.specs.declared.rows.ConnectionRead.TheVariants as ConnectionRead
 use Rattle.reader.specs.declared.fields.FieldRead.{FieldRead}
-use Rattle.reader.specs.declared.fields.FieldRead.TheVariants as FieldRead
 
 module _ (text : List ℕ) (at : ℕ) where
   module _ (r : ComponentRead) (h : ComponentReadAt text at r) where

@@ -9,9 +9,7 @@ use Rattle.rules.specs.Bytes.{bytes}
 use Rattle.rules.specs.Text.{Place, Reading, broken, read, place, and_then, field, rows_of, number64, counted, component, connection, ended, scene_at}
 use Rattle.text.specs.Filled.{ComponentsListed, ConnectionsListed, RowsFound, RowsFilled, CountedFilled, SceneFound}
 use Rattle.text.specs.declared.reading.RowsRead.{RowsRead}
-use Rattle.text.specs.declared.reading.RowsRead.TheVariants as RowsRead
 use Rattle.text.specs.declared.reading.CountedRead.{CountedRead}
-use Rattle.text.specs.declared.reading.CountedRead.TheVariants as CountedRead
 
 module _ {A : Type 0} (name : List ℕ) (row : Place → Reading A) (p : Place) where
   -- no count

@@ -4,11 +4,8 @@ use Rattle.rules.specs.Scene.{Component, Connection, Scene, ComponentLists, Conn
 use Rattle.rules.specs.Report.{component_fields, connection_fields}
 use Rattle.rules.specs.Text.{Place, Reading, broken, read, place, scene_at}
 use Rattle.text.specs.declared.reading.RowsRead.{RowsRead}
-use Rattle.text.specs.declared.reading.RowsRead.TheVariants as RowsRead
 use Rattle.text.specs.declared.reading.CountedRead.{CountedRead}
-use Rattle.text.specs.declared.reading.CountedRead.TheVariants as CountedRead
 use Rattle.text.specs.declared.reading.SceneRead.{SceneRead}
-use Rattle.text.specs.declared.reading.SceneRead.TheVariants as SceneRead
 
 -- the first n entries of the lists are those of other lists
 pub record ComponentsFront (n : ℕ) (l fields : ComponentLists) : Type 0 where

@@ -12,7 +12,7 @@ use Rattle.rules.specs.Ordered.{ordered}
 use Rattle.rules.specs.Codes.{unit_of}
 use Rattle.rules.specs.Refusals.{first_refusal, shortest}
 use Rattle.rules.specs.Pulses.{EventLists, EventsAligned, event_lists, events_of, pulse_of}
-use Rattle.rules.specs.Verdicts.{Contract, ContractLists, contracts_of, Finding, finding_of, findings, tallies, FindingLists, finding_lists, finding_lengths, FindingsListed, finding_component, finding_polarity, finding_unit, finding_start_tick, finding_end_tick, finding_width, finding_steady, finding_baseline, finding_start, finding_end, finding_verdict, finding_rationale}
+use Rattle.rules.specs.Verdicts.{Contract, ContractLists, contracts_of, Finding, finding_of, findings, FindingLists, finding_lists, finding_lengths, FindingsListed, finding_component, finding_polarity, finding_unit, finding_start_tick, finding_end_tick, finding_width, finding_steady, finding_baseline, finding_start, finding_end, finding_verdict, finding_rationale}
 use Rattle.rules.specs.Windows.{window_places, pulse_at}
 use Rattle.rules.specs.Traces.{TraceLimits, trace_limits, TraceLists, trace_lists, event_count, contract_count, trace_tests, check_trace, trace_findings, AssessedBy, TraceCall, TraceCallFrom}
 use Rattle.rules.specs.declared.answers.Checked.{Checked}

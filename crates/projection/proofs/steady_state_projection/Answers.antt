@@ -4,7 +4,6 @@ use lib.ListN.{length}
 use lib.Seq.{length_front}
 use Rattle.projection.specs.Projecting.{node_lists, projected_lists, work_lists}
 use Rattle.projection.proofs.CallSteps.{marks-room, next-room, marks-lent, next-lent, retainable, lent_length, whole_length, whole_room, number_in, number-lent, ready, call-done, call-refused}
-use borrow.Author.Rules.{rules}
 use Rattle.projection.proofs.steady_state_projection.Goals as goal
 
 pub slice_bounds-retain-end : goal.slice_bounds-retain-end

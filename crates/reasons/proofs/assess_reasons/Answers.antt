@@ -2,7 +2,6 @@
 use mathlib.Core.Path.{sym, ◌∙◌}
 use Rattle.reasons.proofs.Fitting.{reasons-fitted}
 use Rattle.reasons.proofs.AssessSteps.{call_fits, call-misfits}
-use borrow.Author.Rules.{rules}
 use Rattle.reasons.proofs.assess_reasons.Goals as goal
 
 pub assess_within-requires : goal.assess_within-requires

@@ -3,7 +3,6 @@ use mathlib.Core.Path.{◌∙◌}
 use native.Mathlib.Omega.{arith}
 use Rattle.reasons.proofs.RowSteps.{room-less}
 use Rattle.reasons.proofs.AssessSteps.{sums-asked, unequal-asked, unequal-room, reasons-found}
-use borrow.Author.Rules.{rules}
 use Rattle.reasons.proofs.assess_within.Goals as goal
 
 pub sum_paths-count-requires : goal.sum_paths-count-requires

@@ -4,7 +4,6 @@ use lib.ListN.{length}
 use lib.Seq.{length_front}
 use Rattle.reconvergence.proofs.Fitting.{fitted, sized, cut}
 use Rattle.reconvergence.proofs.Whole.{answers, refuses}
-use borrow.Author.Rules.{rules}
 use Rattle.reconvergence.proofs.reconvergent_delay_reasons.Goals as goal
 
 pub slice_bounds-find_unequal-end : goal.slice_bounds-find_unequal-end

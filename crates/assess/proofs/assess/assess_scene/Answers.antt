@@ -4,7 +4,6 @@ use Rattle.rules.specs.Scene.{component_lists, connection_lists}
 use Rattle.rules.specs.Assess.{assess_lists}
 use Rattle.scene.proofs.PositionSteps.{room_of}
 use Rattle.assess.proofs.SceneAssess.{call-refused, lent, assessable, output-room, ready, retained-bound, call-answered}
-use borrow.Author.Rules.{rules}
 use Rattle.assess.proofs.assess.assess_scene.Goals as goal
 
 -- src/assess.rt:228:17

@@ -4,7 +4,6 @@ use lib.Seq.{length-take-le}
 use Rattle.reasons.specs.Rows.{columns}
 use Rattle.reasons.proofs.Fitting.{assessable-fits}
 use Rattle.reasons.proofs.Promises.{fitting-reasons}
-use borrow.Author.Rules.{rules}
 use Rattle.assess.proofs.assess.reason_scene.Goals as goal
 
 pub slice_bounds-assess_reasons-end : goal.slice_bounds-assess_reasons-end

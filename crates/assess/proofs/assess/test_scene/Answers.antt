@@ -1,7 +1,6 @@
 -- The scene is tested by the shortest lengths of its output lists. Assumes nothing.
 use Rattle.rules.specs.Scene.{component_lists, connection_lists}
 use Rattle.assess.proofs.SceneAssess.{tested}
-use borrow.Author.Rules.{rules}
 use Rattle.assess.proofs.assess.test_scene.Goals as goal
 
 pub returns : goal.returns

@@ -1,15 +1,11 @@
 -- The components are gone through in order. Assumes nothing.
 use mathlib.Core.Bool.{cond}
 use Prim.Native.Nat.{ℕ, ◌-◌, ◌≤◌}
-use native.Mathlib.Omega.{arith}
-use borrow.Author.Rules.{rules}
 use lib.ListN.{length}
 use Rattle.rules.specs.Kinds.{kind_row, component_delay}
 use Rattle.rules.specs.Ordered.{key_at}
 use Rattle.rules.specs.Projection.{is_delayed_invert, compressible_kind}
-use Rattle.rules.proofs.Made.{Made, made_none, made_more}
-use Rattle.tables.proofs.Table.{delay-of-row}
-use Rattle.assess.proofs.NodeSteps.{inverts-of-row, compressible-of-row, delays-made, inverts-made, compressible-made}
+use Rattle.rules.proofs.Made.{Made}
 use Rattle.assess.proofs.nodes.fill_nodes.Given as goal
 
 abbrev pub invariant-loop-i : goal.invariant-loop-i

@@ -1,7 +1,6 @@
 -- The fronts of the lists are as long as they are cut. Assumes nothing.
 use mathlib.Core.Path.{sym, ◌∙◌}
 use lib.Seq.{length-take-le}
-use borrow.Author.Rules.{rules}
 use Rattle.assess.proofs.project.project_fronts.Goals as goal
 
 pub slice_bounds-steady_state_projection-end : goal.slice_bounds-steady_state_projection-end

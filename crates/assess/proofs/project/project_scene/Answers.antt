@@ -1,6 +1,5 @@
 -- The nodes are filled in, then projected. Assumes nothing.
 use Rattle.assess.proofs.ProjectSteps.{fresh-room, nodes-lent, fronts-fit, projecting-nodes}
-use borrow.Author.Rules.{rules}
 use Rattle.assess.proofs.project.project_scene.Goals as goal
 
 -- src/project.rt:96:5

@@ -1,7 +1,6 @@
 -- The devices are chosen, then listed. Assumes nothing.
 use native.Mathlib.Omega.{arith}
 use Rattle.describe.proofs.ChosenSteps.{chosen_is, chosen-count, chosen-fits, chosen-length, chosen-below, listed-for}
-use borrow.Author.Rules.{rules}
 use Rattle.describe.proofs.components.list_components.Goals as goal
 
 -- src/components.rt:105:9

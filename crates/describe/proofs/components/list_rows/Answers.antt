@@ -2,7 +2,6 @@
 use mathlib.Core.Path.{refl}
 use native.Mathlib.Omega.{arith}
 use Rattle.describe.proofs.EvidenceSteps.{fits_kept}
-use borrow.Author.Rules.{rules}
 use Rattle.describe.proofs.components.list_rows.Goals as goal
 
 pub list_devices-requires : goal.list_devices-requires

@@ -5,7 +5,6 @@ use Rattle.rules.specs.Scene.{component_lists, connection_lists}
 use Rattle.rules.specs.Describe.{describe_lists}
 use Rattle.scene.proofs.PositionSteps.{room_of}
 use Rattle.describe.proofs.SceneDescribe.{call-refused, starts_fit, stops-fit, starts-length, stops-length, components-few, edges_room, components-room, evidence-few, call-described}
-use borrow.Author.Rules.{rules}
 use Rattle.describe.proofs.describe.describe_scene.Goals as goal
 
 -- src/describe.rt:151:17

@@ -1,7 +1,6 @@
 -- The scene is tested by the shortest lengths of its output lists. Assumes nothing.
 use Rattle.rules.specs.Scene.{component_lists, connection_lists}
 use Rattle.describe.proofs.SceneDescribe.{tested}
-use borrow.Author.Rules.{rules}
 use Rattle.describe.proofs.describe.test_scene.Goals as goal
 
 pub returns : goal.returns

@@ -1,6 +1,5 @@
 -- One position is written, or none. Assumes nothing.
 use mathlib.Core.Path.{refl}
-use borrow.Author.Rules.{rules}
 use Rattle.describe.proofs.devices.choose.Goals as goal
 
 pub returns-then-wanted : goal.returns-then-wanted

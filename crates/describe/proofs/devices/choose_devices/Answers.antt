@@ -1,10 +1,7 @@
 -- The components are gone through in order. Assumes nothing.
 use native.Mathlib.Omega.{arith}
-use mathlib.Core.Path.{◌≡◌, refl, ◌∙◌}
-use Prim.Native.Nat.{◌-◌, ◌≤◌}
-use lib.ListN.{length}
-use borrow.Author.Rules.{rules}
-use Rattle.describe.proofs.ChosenSteps.{ChosenBelow, chosen_none, chosen_more, chosen-all}
+use mathlib.Core.Path.{refl, ◌∙◌}
+use Rattle.describe.proofs.ChosenSteps.{chosen_none, chosen_more, chosen-all}
 use Rattle.describe.proofs.devices.choose_devices.Goals as goal
 
 pub loop-i-init : goal.loop-i-init

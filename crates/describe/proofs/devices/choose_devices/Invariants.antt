@@ -1,10 +1,8 @@
 -- The components are gone through in order. Assumes nothing.
-use native.Mathlib.Omega.{arith}
-use mathlib.Core.Path.{◌≡◌, refl, ◌∙◌}
+use mathlib.Core.Path.{◌≡◌}
 use Prim.Native.Nat.{◌-◌, ◌≤◌}
 use lib.ListN.{length}
-use borrow.Author.Rules.{rules}
-use Rattle.describe.proofs.ChosenSteps.{ChosenBelow, chosen_none, chosen_more, chosen-all}
+use Rattle.describe.proofs.ChosenSteps.{ChosenBelow}
 use Rattle.describe.proofs.devices.choose_devices.Given as goal
 
 abbrev pub invariant-loop-i : goal.invariant-loop-i

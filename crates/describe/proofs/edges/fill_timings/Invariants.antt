@@ -1,14 +1,8 @@
 -- The components are gone through in order. Assumes nothing.
-use mathlib.Core.Path.{ap, ◌∙◌}
 use Prim.Native.Nat.{◌-◌, ◌≤◌}
-use native.Mathlib.Omega.{arith}
-use borrow.Author.Rules.{rules}
 use lib.ListN.{length}
-use Rattle.rules.specs.Codes.{behavior_code}
-use Rattle.rules.specs.declared.kinds.EdgeTiming.{EdgeTiming}
-use Rattle.rules.proofs.Made.{Made, made_none, made_more}
+use Rattle.rules.proofs.Made.{Made}
 use Rattle.describe.specs.Rows.{delay_at_position, behavior_at_position}
-use Rattle.describe.proofs.EdgeSteps.{column-filled}
 use Rattle.describe.proofs.edges.fill_timings.Given as goal
 
 abbrev pub invariant-loop-i : goal.invariant-loop-i

@@ -4,7 +4,6 @@ use lib.ListN.{length}
 use Rattle.rules.specs.Lists.{written}
 use Rattle.describe.specs.Rows.{delay_at_position, behavior_at_position}
 use Rattle.describe.proofs.EdgeSteps.{column-read}
-use borrow.Author.Rules.{rules}
 use Rattle.describe.proofs.edges.list_filled.Goals as goal
 
 pub returns : goal.returns

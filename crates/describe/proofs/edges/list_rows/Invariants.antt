@@ -1,11 +1,8 @@
 -- The edges are gone through in order. Assumes nothing.
-use mathlib.Core.Path.{refl}
 use Prim.Native.Nat.{ℕ, ◌-◌, ◌≤◌}
-use native.Mathlib.Omega.{arith}
-use borrow.Author.Rules.{rules}
 use lib.ListN.{length, get_or}
 use Rattle.rules.specs.Ordered.{key_at}
-use Rattle.rules.proofs.Made.{Made, made_none, made_more, made_all}
+use Rattle.rules.proofs.Made.{Made}
 use Rattle.describe.proofs.edges.list_rows.Given as goal
 
 abbrev pub invariant-loop-e : goal.invariant-loop-e

@@ -1,10 +1,7 @@
 -- The connections are gone through in order. Assumes nothing.
-use mathlib.Core.Path.{refl}
 use Prim.Native.Nat.{ℕ, ◌-◌, ◌≤◌}
-use native.Mathlib.Omega.{arith}
-use borrow.Author.Rules.{rules}
 use lib.ListN.{length, get_or}
-use Rattle.rules.proofs.Made.{Made, made_none, made_more, made_all}
+use Rattle.rules.proofs.Made.{Made}
 use Rattle.describe.proofs.evidence.list_connection_evidence.Given as goal
 
 abbrev pub invariant-loop-j : goal.invariant-loop-j

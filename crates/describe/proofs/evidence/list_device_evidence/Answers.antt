@@ -1,11 +1,9 @@
 -- The chosen components are gone through in order. Assumes nothing.
 use mathlib.Core.Path.{refl}
-use Prim.Native.Nat.{ℕ, ◌-◌, ◌≤◌}
+use Prim.Native.Nat.{ℕ}
 use native.Mathlib.Omega.{arith}
-use borrow.Author.Rules.{rules}
-use lib.ListN.{length, get_or}
 use Rattle.rules.specs.Ordered.{key_at}
-use Rattle.rules.proofs.Made.{Made, made_none, made_more, made_all}
+use Rattle.rules.proofs.Made.{made_none, made_more, made_all}
 use Rattle.describe.proofs.evidence.list_device_evidence.Goals as goal
 
 pub loop-k-init : goal.loop-k-init

@@ -3,7 +3,6 @@ use mathlib.Core.Path.{refl}
 use Prim.Native.Nat.{ℕ}
 use native.Mathlib.Omega.{arith}
 use Rattle.describe.proofs.EvidenceSteps.{fits_kept, after-row}
-use borrow.Author.Rules.{rules}
 use Rattle.describe.proofs.evidence.list_evidence.Goals as goal
 
 pub list_connection_evidence-requires : goal.list_connection_evidence-requires

@@ -1,8 +1,5 @@
 -- Assumes nothing.
-use mathlib.Core.Path.{sym}
-use lib.Seq.{length-take-le}
 use Rattle.events.proofs.Refusing.{on-firsts}
-use borrow.Author.Rules.{rules}
 use Rattle.events.proofs.counted.assess_counted.Goals as goal
 
 pub returns-then-count-le-MAX_EVENTS : goal.returns-then-count-le-MAX_EVENTS

@@ -1,6 +1,6 @@
 -- Assumes nothing.
 use mathlib.Core.Path.{◌≡◌, refl, sym, subst, ◌∙◌}
-use Prim.Native.Nat.{zero-le, ◌≤◌, ◌<◌}
+use Prim.Native.Nat.{zero-le, ◌≤◌}
 use native.Mathlib.Numerals.{add-one-le}
 use native.Mathlib.Omega.{arith}
 use lib.ListN.{length, get_or}

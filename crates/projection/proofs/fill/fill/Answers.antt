@@ -1,9 +1,8 @@
 -- `fill` writes a projected edge and its path for each first edge. Assumes nothing.
-use Prim.Native.Nat.{◌-◌, ◌≤◌}
 use native.Mathlib.Omega.{arith}
-use lib.ListN.{length, get_or, take}
+use lib.ListN.{get_or}
 use Rattle.projection.specs.Projecting.{projected_lists}
-use Rattle.projection.specs.Walking.{net, Filled}
+use Rattle.projection.specs.Walking.{net}
 use Rattle.projection.proofs.FillSteps.{filled_none, filled_more, filled-all, first_edge, next-room, keeps-sources, keeps-sinks, keeps-inverted, keeps-minimums, keeps-maximums, keeps-starts, keeps-lengths, keeps-ids}
 use Rattle.projection.proofs.fill.fill.Goals as goal
 

@@ -1,9 +1,6 @@
 -- `list_chain` lists the edges of one chain. Assumes nothing.
-use Prim.Native.Nat.{◌-◌}
 use native.Mathlib.Omega.{arith}
-use borrow.Author.Rules.{rules}
-use lib.ListN.{length}
-use Rattle.projection.proofs.ListSteps.{Listing, listing_none, listing-length, listing-end, listing-in, listing-more}
+use Rattle.projection.proofs.ListSteps.{listing_none, listing-length, listing-end, listing-in, listing-more}
 use Rattle.projection.proofs.first_edges.list_chain.Goals as goal
 
 pub loop-e-init : goal.loop-e-init

@@ -1,9 +1,7 @@
 -- `list_chain` lists the edges of one chain. Assumes nothing.
 use Prim.Native.Nat.{◌-◌}
-use native.Mathlib.Omega.{arith}
-use borrow.Author.Rules.{rules}
 use lib.ListN.{length}
-use Rattle.projection.proofs.ListSteps.{Listing, listing_none, listing-length, listing-end, listing-in, listing-more}
+use Rattle.projection.proofs.ListSteps.{Listing}
 use Rattle.projection.proofs.first_edges.list_chain.Given as goal
 
 abbrev pub invariant-loop-e : goal.invariant-loop-e

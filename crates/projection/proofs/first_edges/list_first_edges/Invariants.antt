@@ -1,10 +1,7 @@
 -- `list_first_edges` lists the chains of the retained nodes. Assumes nothing.
 use Prim.Native.Nat.{◌-◌, ◌≤◌}
-use native.Mathlib.Omega.{arith}
-use borrow.Author.Rules.{rules}
 use lib.ListN.{length, take}
 use Rattle.projection.specs.Marking.{linked, firsts_by, RowWritten}
-use Rattle.projection.proofs.ListSteps.{firsts-none, firsts-length, firsts_same, firsts-room, firsts_more, firsts-all}
 use Rattle.projection.proofs.first_edges.list_first_edges.Given as goal
 
 abbrev pub invariant-loop-i : goal.invariant-loop-i

@@ -1,10 +1,6 @@
 -- `each_at_least` tests the lengths one by one. Assumes nothing.
 use Prim.Native.Nat.{ℕ, ◌-◌, ◌<◌, ◌≤◌}
-use native.Mathlib.Omega.{arith}
-use borrow.Author.Count.{below_more}
-use borrow.Author.Rules.{rules}
 use lib.ListN.{length, get_or}
-use Rattle.projection.proofs.FitSteps.{at-least-all, at-least-not}
 use Rattle.projection.proofs.fits.each_at_least.Given as goal
 
 abbrev pub invariant-loop-i : goal.invariant-loop-i

@@ -1,11 +1,7 @@
 -- `each_is` tests the lengths one by one. Assumes nothing.
 use mathlib.Core.Path.{◌≡◌}
 use Prim.Native.Nat.{ℕ, ◌-◌, ◌<◌, ◌≤◌}
-use native.Mathlib.Omega.{arith}
-use borrow.Author.Count.{below_more}
-use borrow.Author.Rules.{rules}
 use lib.ListN.{length, get_or}
-use Rattle.projection.proofs.FitSteps.{is_all, is-not}
 use Rattle.projection.proofs.fits.each_is.Given as goal
 
 abbrev pub invariant-loop-i : goal.invariant-loop-i

@@ -1,9 +1,7 @@
 -- `ids_rise` compares each id with the one before it. Assumes nothing.
 use Prim.Native.Nat.{◌-◌}
-use native.Mathlib.Omega.{arith}
-use borrow.Author.Rules.{rules}
 use lib.ListN.{length}
-use Rattle.projection.proofs.FitSteps.{RisingBelow, rising_none, rising-more, rising-all, rising-not}
+use Rattle.projection.proofs.FitSteps.{RisingBelow}
 use Rattle.projection.proofs.fits.ids_rise.Given as goal
 
 abbrev pub invariant-loop-i : goal.invariant-loop-i

@@ -1,8 +1,6 @@
 -- `lists_fit` makes the tests of shapes_fit one by one. Assumes nothing.
 use mathlib.Core.Path.{sym, ◌∙◌}
 use native.Mathlib.Omega.{arith}
-use borrow.Author.Tests.{not-true, not-false}
-use borrow.Author.Rules.{rules}
 use Rattle.graph.proofs.Fitting.{ends-below}
 use Rattle.projection.proofs.FitSteps.{no_pairs, no-per-node, no-node-room, no-edge-room, no-path-room, no-sources, no-sinks, no-order, rising-decides}
 use Rattle.projection.proofs.fits.lists_fit.Goals as goal

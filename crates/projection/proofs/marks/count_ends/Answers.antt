@@ -1,10 +1,8 @@
 -- `count_ends` counts the ends one by one. Assumes nothing.
-use Prim.Native.Nat.{◌-◌}
 use mathlib.Core.Path.{refl, sym, ap, ◌∙◌}
 use native.Mathlib.Omega.{arith}
-use borrow.Author.Rules.{rules}
 use lib.ListN.{length, get_or, replicate}
-use Rattle.projection.proofs.MarkSteps.{Counting, counting-none, counting-all, counting-few, counting_more}
+use Rattle.projection.proofs.MarkSteps.{counting-none, counting-all, counting-few, counting_more}
 use Rattle.projection.proofs.marks.count_ends.Goals as goal
 
 pub loop-e-init : goal.loop-e-init

@@ -1,10 +1,7 @@
 -- `mark_nodes` marks the nodes one by one. Assumes nothing.
-use Prim.Native.Nat.{◌-◌}
 use mathlib.Core.Path.{sym, ◌∙◌}
 use native.Mathlib.Omega.{arith}
-use borrow.Author.Rules.{rules}
-use lib.ListN.{length}
-use Rattle.projection.proofs.MarkSteps.{MarkedBelow, marked-none, marked-length, retained-few, marked_all, marked_more}
+use Rattle.projection.proofs.MarkSteps.{marked-none, marked-length, retained-few, marked_all, marked_more}
 use Rattle.projection.proofs.marks.mark_nodes.Goals as goal
 
 pub loop-v-init : goal.loop-v-init

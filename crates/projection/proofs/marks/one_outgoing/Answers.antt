@@ -1,5 +1,4 @@
 -- `one_outgoing` reads the first link and its next. Assumes nothing.
-use borrow.Author.Rules.{rules}
 use Rattle.projection.proofs.ListSteps.{one-linked, none-linked}
 use Rattle.projection.proofs.marks.one_outgoing.Goals as goal
 

@@ -1,6 +1,5 @@
 -- `path_part` makes the tests of a stored part one by one. Assumes nothing.
 use native.Mathlib.Omega.{arith}
-use borrow.Author.Rules.{rules}
 use Rattle.projection.proofs.PartSteps.{part-inside, part-past-starts, part-past-lengths, part-outside}
 use Rattle.projection.proofs.projected_path.path_part.Goals as goal
 

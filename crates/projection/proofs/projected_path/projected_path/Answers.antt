@@ -1,6 +1,5 @@
 -- `projected_path` hands back the part that holds the path. Assumes nothing.
 use native.Mathlib.Omega.{arith}
-use borrow.Author.Rules.{rules}
 use Rattle.projection.proofs.PartSteps.{found_within, found-cut}
 use Rattle.projection.proofs.projected_path.projected_path.Goals as goal
 

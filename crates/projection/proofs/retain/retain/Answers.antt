@@ -1,6 +1,5 @@
 -- `retain` makes its passes one after another. Assumes nothing.
 use Rattle.projection.proofs.RetainSteps.{sinks-counted, markable, listable, retaining}
-use borrow.Author.Rules.{rules}
 use Rattle.projection.proofs.retain.retain.Goals as goal
 
 pub count_ends-requires : goal.count_ends-requires

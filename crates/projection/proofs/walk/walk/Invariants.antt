@@ -1,10 +1,8 @@
 -- `walk` writes the nodes of one chain, one by one. Assumes nothing.
 use Prim.Native.Nat.{suc, ◌+◌, ◌-◌}
-use native.Mathlib.Omega.{arith}
-use borrow.Author.Rules.{rules}
-use lib.ListN.{length, length-set}
+use lib.ListN.{length}
 use Rattle.projection.specs.Walking.{net}
-use Rattle.projection.proofs.WalkSteps.{Going, sink-in, going_start, going_more, going_end, end-in, end-less, last-place, last-in, kept-length}
+use Rattle.projection.proofs.WalkSteps.{Going}
 use Rattle.projection.proofs.walk.walk.Given as goal
 
 abbrev pub invariant-loop-v : goal.invariant-loop-v

@@ -2,9 +2,6 @@
 use mathlib.Core.Path.{sym, ◌∙◌}
 use Rattle.reader.proofs.numbers.is_none.Goals as goal
 
--- LOST slice-aggregate-starts-with : tie.Need-slice-aggregate-starts-with
--- LOST slice-aggregate-starts-with c = search rules
-
 pub returns-then-starts_with : goal.returns-then-starts_with
 returns-then-starts_with c = rw (sym c.starts_with.ensures ∙ c.if-starts_with.true)
 

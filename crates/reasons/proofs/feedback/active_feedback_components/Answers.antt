@@ -1,7 +1,6 @@
 -- Assumes nothing.
 use mathlib.Core.Path.{refl, sym, ◌∙◌}
 use Rattle.reasons.proofs.Fitting.{feedback-fitted}
-use borrow.Author.Rules.{rules}
 use Rattle.reasons.proofs.feedback.active_feedback_components.Goals as goal
 
 pub list_within-listed-requires : goal.list_within-listed-requires

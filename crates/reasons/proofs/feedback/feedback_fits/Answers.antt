@@ -1,7 +1,6 @@
 -- Assumes nothing.
 use borrow.Author.Tests.{eq-eqb, ne_eqb, le-leb, lt-leb}
 use Rattle.reasons.specs.Fits.{feedback_fits}
-use borrow.Author.Rules.{rules}
 use Rattle.reasons.proofs.feedback.feedback_fits.Goals as goal
 
 pub returns-then-kinds-n : goal.returns-then-kinds-n

@@ -1,6 +1,5 @@
 -- Assumes nothing.
 use Rattle.reasons.proofs.PatternSteps.{pattern-marked}
-use borrow.Author.Rules.{rules}
 use Rattle.reasons.proofs.feedback.feedback_pattern.Goals as goal
 
 pub returns : goal.returns

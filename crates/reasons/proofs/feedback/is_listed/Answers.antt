@@ -1,6 +1,5 @@
 -- Assumes nothing.
 use mathlib.Core.Path.{sym, ap, ◌∙◌}
-use borrow.Author.Rules.{rules}
 use Rattle.rules.specs.declared.kinds.TemporalNodeKind.TheVariants.{Source, Wire, Inverter, Delay, Comparator, Actuator, Conductor}
 use Rattle.reasons.proofs.ListingSteps.{without-mark, by-node}
 use Rattle.reasons.proofs.feedback.is_listed.Goals as goal

@@ -1,6 +1,5 @@
 -- Assumes nothing.
 use mathlib.Core.Path.{refl}
-use borrow.Author.Rules.{rules}
 use Rattle.reasons.proofs.feedback.list_id.Goals as goal
 
 pub returns-then-listed : goal.returns-then-listed

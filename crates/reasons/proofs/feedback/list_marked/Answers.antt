@@ -1,12 +1,10 @@
 -- Assumes nothing.
 use native.Mathlib.Omega.{arith}
 use mathlib.Core.Path.{◌≡◌, refl, subst, ◌∙◌}
-use Prim.Native.Nat.{◌-◌, ◌≤◌}
 use lib.ListN.{length}
-use borrow.Author.Rules.{rules}
 use Rattle.rules.specs.Lists.{written}
 use Rattle.reasons.specs.Listing.{listed_ids}
-use Rattle.reasons.proofs.ListingSteps.{ListedBelow, listed_start, listed_more}
+use Rattle.reasons.proofs.ListingSteps.{listed_start, listed_more}
 use Rattle.reasons.proofs.feedback.list_marked.Goals as goal
 
 pub loop-i-init : goal.loop-i-init

@@ -1,12 +1,8 @@
 -- Assumes nothing.
-use native.Mathlib.Omega.{arith}
-use mathlib.Core.Path.{◌≡◌, refl, subst, ◌∙◌}
+use mathlib.Core.Path.{◌≡◌}
 use Prim.Native.Nat.{◌-◌, ◌≤◌}
 use lib.ListN.{length}
-use borrow.Author.Rules.{rules}
-use Rattle.rules.specs.Lists.{written}
-use Rattle.reasons.specs.Listing.{listed_ids}
-use Rattle.reasons.proofs.ListingSteps.{ListedBelow, listed_start, listed_more}
+use Rattle.reasons.proofs.ListingSteps.{ListedBelow}
 use Rattle.reasons.proofs.feedback.list_marked.Given as goal
 
 abbrev pub invariant-loop-i : goal.invariant-loop-i

@@ -5,7 +5,6 @@ use lib.Seq.{length-take-le}
 use Rattle.rules.specs.Graph.{edges_between, shared_marks}
 use Rattle.reasons.specs.Listing.{Linked}
 use Rattle.reasons.proofs.ListingSteps.{written-front, front-room, shared-listed}
-use borrow.Author.Rules.{rules}
 use Rattle.reasons.proofs.feedback.list_shared.Goals as goal
 
 pub slice_bounds-mark_positions-end-2 : goal.slice_bounds-mark_positions-end-2

@@ -1,7 +1,6 @@
 -- Assumes nothing.
 use lib.ListN.{length}
 use Rattle.reasons.proofs.ListingSteps.{marks-shared}
-use borrow.Author.Rules.{rules}
 use Rattle.reasons.proofs.feedback.mark_positions.Goals as goal
 
 pub returns : goal.returns

@@ -2,7 +2,6 @@
 use mathlib.Core.Path.{sym, ◌∙◌}
 use borrow.Author.Tests.{eq-eqb, ne_eqb, le-leb, lt-leb}
 use Rattle.reasons.specs.Fits.{edges_fit}
-use borrow.Author.Rules.{rules}
 use Rattle.reasons.proofs.fits.edges_fit.Goals as goal
 
 pub returns-then-stops-starts : goal.returns-then-stops-starts

@@ -1,7 +1,6 @@
 -- Assumes nothing.
 use borrow.Author.Tests.{le-leb, lt-leb}
 use Rattle.reasons.specs.Fits.{order_fits}
-use borrow.Author.Rules.{rules}
 use Rattle.reasons.proofs.fits.order_fits.Goals as goal
 
 pub returns-then-n-order : goal.returns-then-n-order

@@ -3,7 +3,6 @@ use mathlib.Core.Path.{sym, ◌∙◌}
 use native.Mathlib.Omega.{arith}
 use Rattle.reasons.specs.Fits.{reasons_fit}
 use Rattle.reasons.proofs.Fitting.{components-fitted}
-use borrow.Author.Rules.{rules}
 use Rattle.reasons.proofs.fits.reasons_fit.Goals as goal
 
 pub overflow_mul-n : goal.overflow_mul-n

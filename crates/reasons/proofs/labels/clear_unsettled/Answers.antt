@@ -1,9 +1,7 @@
 -- Assumes nothing.
-use Prim.Native.Nat.{◌-◌, ◌≤◌}
 use mathlib.Core.Path.{◌≡◌, refl, subst, ◌∙◌}
 use native.Mathlib.Omega.{arith}
-use borrow.Author.Rules.{rules}
-use lib.ListN.{length, length-set}
+use lib.ListN.{length-set}
 use Rattle.rules.specs.Lists.{written}
 use Rattle.reasons.specs.Sums.{cleared_sum}
 use Rattle.reasons.proofs.SumSteps.{cleared, made-start, clear-more}

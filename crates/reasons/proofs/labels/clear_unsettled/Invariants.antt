@@ -1,12 +1,9 @@
 -- Assumes nothing.
 use Prim.Native.Nat.{◌-◌, ◌≤◌}
-use mathlib.Core.Path.{◌≡◌, refl, subst, ◌∙◌}
-use native.Mathlib.Omega.{arith}
-use borrow.Author.Rules.{rules}
-use lib.ListN.{length, length-set}
+use mathlib.Core.Path.{◌≡◌}
+use lib.ListN.{length}
 use Rattle.rules.specs.Lists.{written}
-use Rattle.reasons.specs.Sums.{cleared_sum}
-use Rattle.reasons.proofs.SumSteps.{cleared, made-start, clear-more}
+use Rattle.reasons.proofs.SumSteps.{cleared}
 use Rattle.reasons.proofs.labels.clear_unsettled.Given as goal
 
 abbrev pub invariant-loop-i : goal.invariant-loop-i

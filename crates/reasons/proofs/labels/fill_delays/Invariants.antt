@@ -1,13 +1,10 @@
 -- Assumes nothing.
 use Prim.Native.Nat.{◌-◌, ◌≤◌}
 use mathlib.Core.List.{map}
-use mathlib.Core.Path.{◌≡◌, refl, subst, ◌∙◌}
-use native.Mathlib.Omega.{arith}
-use borrow.Author.Rules.{rules}
-use lib.ListN.{length, length-set}
+use mathlib.Core.Path.{◌≡◌}
+use lib.ListN.{length}
 use Rattle.rules.specs.Lists.{indices, written}
 use Rattle.reasons.specs.Over.{position_delay}
-use Rattle.reasons.proofs.SumSteps.{made-start, fill_more}
 use Rattle.reasons.proofs.labels.fill_delays.Given as goal
 
 abbrev pub invariant-loop-i : goal.invariant-loop-i

@@ -3,7 +3,6 @@ use mathlib.Core.Path.{refl, sym}
 use lib.ListN.{take}
 use lib.Seq.{length-take-le}
 use Rattle.reasons.proofs.SumSteps.{sums-found}
-use borrow.Author.Rules.{rules}
 use Rattle.reasons.proofs.labels.sum_delays.Goals as goal
 
 pub slice_bounds-front-end : goal.slice_bounds-front-end

@@ -1,7 +1,6 @@
 -- Assumes nothing.
 use Rattle.rules.specs.Graph.{edges_between}
 use Rattle.reasons.proofs.SumSteps.{by-delays}
-use borrow.Author.Rules.{rules}
 use Rattle.reasons.proofs.labels.sum_paths.Goals as goal
 
 pub returns : goal.returns

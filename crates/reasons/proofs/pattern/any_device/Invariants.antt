@@ -1,13 +1,9 @@
 -- Assumes nothing.
 use Prim.Native.Nat.{ℕ, ◌-◌, ◌<◌, ◌≤◌}
 use mathlib.Core.Bool.{false}
-use mathlib.Core.Path.{◌≡◌, sym, ◌∙◌}
-use native.Mathlib.Omega.{arith}
-use borrow.Author.Rules.{rules}
-use borrow.Author.Count.{below_more}
+use mathlib.Core.Path.{◌≡◌}
 use lib.ListN.{length}
 use Rattle.reasons.specs.Pattern.{device_at}
-use Rattle.reasons.proofs.PatternSteps.{search-found, search-missed}
 use Rattle.reasons.proofs.pattern.any_device.Given as goal
 
 abbrev pub invariant-loop-i : goal.invariant-loop-i

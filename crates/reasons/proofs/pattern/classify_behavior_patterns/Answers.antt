@@ -2,7 +2,6 @@
 use mathlib.Core.Bool.{true, false}
 use mathlib.Core.Path.{sym, ◌∙◌}
 use Rattle.reasons.proofs.PatternSteps.{with-feedback, without-feedback}
-use borrow.Author.Rules.{rules}
 use Rattle.reasons.proofs.pattern.classify_behavior_patterns.Goals as goal
 
 pub returns-then-any_inverter : goal.returns-then-any_inverter

@@ -2,7 +2,6 @@
 use mathlib.Core.Path.{sym, ap, ◌∙◌}
 use Rattle.rules.specs.declared.kinds.TemporalNodeKind.TheVariants.{Source, Wire, Inverter, Delay, Comparator, Actuator, Conductor}
 use Rattle.reasons.proofs.PatternSteps.{inverter-by}
-use borrow.Author.Rules.{rules}
 use Rattle.reasons.proofs.pattern.is_inverter.Goals as goal
 
 pub returns-in-Source : goal.returns-in-Source

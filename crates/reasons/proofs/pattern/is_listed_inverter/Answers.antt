@@ -1,6 +1,5 @@
 -- Assumes nothing.
 use mathlib.Core.Path.{sym, ◌∙◌}
-use borrow.Author.Rules.{rules}
 use Rattle.reasons.proofs.pattern.is_listed_inverter.Goals as goal
 
 pub returns-then-is_listed : goal.returns-then-is_listed

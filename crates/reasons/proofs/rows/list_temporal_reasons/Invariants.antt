@@ -1,11 +1,8 @@
 -- Assumes nothing.
 use Prim.Native.Nat.{◌-◌, ◌≤◌}
-use mathlib.Core.Path.{◌∙◌}
-use native.Mathlib.Omega.{arith}
-use borrow.Author.Rules.{rules}
 use lib.ListN.{length}
 use Rattle.reasons.specs.Rows.{columns}
-use Rattle.reasons.proofs.RowSteps.{room-less, OwnBelow, own-start, own-kept, own_room, own-next, looped-room, temporal-listed}
+use Rattle.reasons.proofs.RowSteps.{OwnBelow}
 use Rattle.reasons.proofs.rows.list_temporal_reasons.Given as goal
 
 abbrev pub invariant-loop-i : goal.invariant-loop-i

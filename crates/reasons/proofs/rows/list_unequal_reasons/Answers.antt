@@ -1,9 +1,7 @@
 -- Assumes nothing.
-use Prim.Native.Nat.{◌-◌, ◌≤◌}
 use native.Mathlib.Omega.{arith}
-use borrow.Author.Rules.{rules}
 use Rattle.reasons.specs.Rows.{columns}
-use Rattle.reasons.proofs.RowSteps.{UnequalBelow, unequal-start, unequal-kept, unequal-room, unequal-next, unequal-end}
+use Rattle.reasons.proofs.RowSteps.{unequal-start, unequal-kept, unequal-room, unequal-next, unequal-end}
 use Rattle.reasons.proofs.rows.list_unequal_reasons.Goals as goal
 
 pub loop-k-init : goal.loop-k-init

@@ -1,6 +1,5 @@
 -- Assumes nothing.
 use Rattle.reasons.proofs.RowSteps.{own-stateful, own-locked}
-use borrow.Author.Rules.{rules}
 use Rattle.reasons.proofs.rows.own_reason.Goals as goal
 
 pub returns-then-is_stateful : goal.returns-then-is_stateful

@@ -1,6 +1,5 @@
 -- Assumes nothing.
 use mathlib.Core.Path.{refl}
-use borrow.Author.Rules.{rules}
 use Rattle.reasons.proofs.rows.put_reason.Goals as goal
 
 pub returns-then-stands : goal.returns-then-stands

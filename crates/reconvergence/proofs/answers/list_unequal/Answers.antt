@@ -1,11 +1,7 @@
 -- `list_unequal` lists the nodes of order that pass. Assumes nothing.
-use Prim.Native.Nat.{◌-◌}
 use mathlib.Core.Path.{sym, ◌∙◌}
 use native.Mathlib.Omega.{arith}
-use borrow.Author.Rules.{rules}
-use lib.ListN.{length}
-use Rattle.reconvergence.specs.Pass.{differs_at}
-use Rattle.reconvergence.proofs.Listing.{ListedTo, listed-none, listed-yes, listed-no, listed-all}
+use Rattle.reconvergence.proofs.Listing.{listed-none, listed-yes, listed-no, listed-all}
 use Rattle.reconvergence.proofs.answers.list_unequal.Goals as goal
 
 pub loop-i-init : goal.loop-i-init

@@ -1,12 +1,8 @@
 -- `mark_settled` marks the nodes with no edge left. Assumes nothing.
 use Prim.Native.Nat.{◌-◌}
-use mathlib.Core.Path.{sym, ◌∙◌}
-use native.Mathlib.Omega.{arith}
-use borrow.Author.Rules.{rules}
 use lib.ListN.{length}
-use Rattle.rules.proofs.Filling.{Filling, filling-none, filling-done}
+use Rattle.rules.proofs.Filling.{Filling}
 use Rattle.reconvergence.specs.Pass.{done_marks}
-use Rattle.reconvergence.proofs.Listing.{marks-length, mark-more}
 use Rattle.reconvergence.proofs.answers.mark_settled.Given as goal
 
 abbrev pub invariant-loop-v : goal.invariant-loop-v

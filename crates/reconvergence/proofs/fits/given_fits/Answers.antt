@@ -2,7 +2,6 @@
 use mathlib.Core.Path.{sym, ◌∙◌}
 use borrow.Author.Tests.{eq-eqb, ne_eqb}
 use Rattle.reconvergence.specs.Fits.{given_fits}
-use borrow.Author.Rules.{rules}
 use Rattle.reconvergence.proofs.fits.given_fits.Goals as goal
 
 pub returns-then-sinks-sources : goal.returns-then-sinks-sources

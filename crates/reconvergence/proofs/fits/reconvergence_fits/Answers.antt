@@ -1,7 +1,6 @@
 -- `reconvergence_fits` makes the three tests. Assumes nothing.
 use mathlib.Core.Path.{sym, ◌∙◌}
 use Rattle.reconvergence.specs.Fits.{reconvergence_fits}
-use borrow.Author.Rules.{rules}
 use Rattle.reconvergence.proofs.fits.reconvergence_fits.Goals as goal
 
 pub returns-then-answers_fit : goal.returns-then-answers_fit

@@ -2,7 +2,6 @@
 use mathlib.Core.Path.{sym, ◌∙◌}
 use Rattle.reconvergence.proofs.Ending.{answered}
 use Rattle.reconvergence.proofs.Whole.{timed, list-fits}
-use borrow.Author.Rules.{rules}
 use Rattle.reconvergence.proofs.pass.find_unequal.Goals as goal
 
 pub sum_paths-requires : goal.sum_paths-requires

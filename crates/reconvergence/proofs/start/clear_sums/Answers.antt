@@ -1,9 +1,7 @@
 -- `clear_sums` sets every sum to 0. Assumes nothing.
-use Prim.Native.Nat.{◌-◌}
 use native.Mathlib.Omega.{arith}
-use borrow.Author.Rules.{rules}
-use lib.ListN.{length, length-set}
-use Rattle.graph.proofs.Filled.{Filled, filled_none, filled_more, filled-all}
+use lib.ListN.{length-set}
+use Rattle.graph.proofs.Filled.{filled_none, filled_more, filled-all}
 use Rattle.reconvergence.proofs.start.clear_sums.Goals as goal
 
 pub loop-v-init : goal.loop-v-init

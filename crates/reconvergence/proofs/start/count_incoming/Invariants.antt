@@ -1,9 +1,7 @@
 -- `count_incoming` counts the edges into each node. Assumes nothing.
 use Prim.Native.Nat.{◌-◌}
-use native.Mathlib.Omega.{arith}
-use borrow.Author.Rules.{rules}
 use lib.ListN.{length}
-use Rattle.reconvergence.proofs.Starting.{CountedTo, counted_none, sink-in, count_room, counted-more, counted-all}
+use Rattle.reconvergence.proofs.Starting.{CountedTo}
 use Rattle.reconvergence.proofs.start.count_incoming.Given as goal
 
 abbrev pub invariant-loop-e : goal.invariant-loop-e

@@ -1,10 +1,7 @@
 -- `list_ready` copies the counts and lists the nodes whose count is 0. Assumes nothing.
 use Prim.Native.Nat.{◌-◌}
-use mathlib.Core.Path.{sym, ◌∙◌}
-use native.Mathlib.Omega.{arith}
-use borrow.Author.Rules.{rules}
 use lib.ListN.{length}
-use Rattle.reconvergence.proofs.Starting.{ReadyTo, ready-none, ready-yes, ready-no, ready-all}
+use Rattle.reconvergence.proofs.Starting.{ReadyTo}
 use Rattle.reconvergence.proofs.start.list_ready.Given as goal
 
 abbrev pub invariant-loop-v : goal.invariant-loop-v

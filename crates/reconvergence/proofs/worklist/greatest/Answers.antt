@@ -2,7 +2,6 @@
 use Prim.Native.Nat.{max}
 use native.Mathlib.Omega.{arith}
 use Rattle.reconvergence.proofs.Relaxations.{chosen-later}
-use borrow.Author.Rules.{rules}
 use Rattle.reconvergence.proofs.worklist.greatest.Goals as goal
 
 pub returns-then-old-new : goal.returns-then-old-new

@@ -2,7 +2,6 @@
 use Prim.Native.Nat.{min}
 use native.Mathlib.Omega.{arith}
 use Rattle.reconvergence.proofs.Relaxations.{chosen-later}
-use borrow.Author.Rules.{rules}
 use Rattle.reconvergence.proofs.worklist.least.Goals as goal
 
 pub returns-then-new-old : goal.returns-then-new-old

@@ -1,6 +1,5 @@
 -- `relax` passes an edge on to its sink. Assumes nothing.
 use Rattle.reconvergence.proofs.Relaxations.{relaxed-last, relaxed-other}
-use borrow.Author.Rules.{rules}
 use Rattle.reconvergence.proofs.worklist.relax.Goals as goal
 
 pub returns-then-waits-eq1 : goal.returns-then-waits-eq1

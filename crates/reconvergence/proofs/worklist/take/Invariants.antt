@@ -1,12 +1,9 @@
 -- `take` relaxes the edges that leave one node. Assumes nothing.
 use Prim.Native.Nat.{◌-◌}
-use mathlib.Core.Path.{sym, ◌∙◌}
-use native.Mathlib.Omega.{arith}
-use borrow.Author.Rules.{rules}
 use lib.ListN.{length}
 use Rattle.rules.specs.Ordered.{key_at}
 use Rattle.rules.specs.Graph.{edges_between}
-use Rattle.reconvergence.proofs.Takes.{Leaving, Brings, node_in, leaving-start, brings, some_left, some-room, leaving-more, leaving-end}
+use Rattle.reconvergence.proofs.Takes.{Leaving, Brings}
 use Rattle.reconvergence.proofs.worklist.take.Given as goal
 
 abbrev pub invariant-loop-e : goal.invariant-loop-e

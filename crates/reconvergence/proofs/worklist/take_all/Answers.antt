@@ -1,11 +1,6 @@
 -- `take_all` takes the nodes in the order in which they came to wait. Assumes nothing.
-use Prim.Native.Nat.{◌-◌}
 use mathlib.Core.Path.{◌≡◌, sym, ◌∙◌}
 use native.Mathlib.Omega.{arith}
-use lib.ListN.{length}
-use Rattle.rules.specs.Ordered.{key_at}
-use Rattle.rules.specs.Graph.{edges_between}
-use Rattle.reconvergence.specs.Worklist.{Taking}
 use Rattle.reconvergence.proofs.worklist.take_all.Goals as goal
 
 pub loop-i-init : goal.loop-i-init

@@ -1,7 +1,5 @@
 -- `take_all` takes the nodes in the order in which they came to wait. Assumes nothing.
 use Prim.Native.Nat.{◌-◌}
-use mathlib.Core.Path.{◌≡◌, sym, ◌∙◌}
-use native.Mathlib.Omega.{arith}
 use lib.ListN.{length}
 use Rattle.rules.specs.Ordered.{key_at}
 use Rattle.rules.specs.Graph.{edges_between}

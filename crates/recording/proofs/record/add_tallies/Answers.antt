@@ -1,10 +1,8 @@
 -- Tally by tally. Assumes nothing.
 use native.Mathlib.Omega.{arith}
-use borrow.Author.Rules.{rules}
 use mathlib.Core.Path.{refl}
 use Rattle.rules.specs.Lists.{indices, from}
 use Rattle.rules.specs.Recording.{add_tallies}
-use borrow.Author.Rules.{rules}
 use Rattle.recording.proofs.record.add_tallies.Goals as goal
 
 pub overflow_add-result : goal.overflow_add-result

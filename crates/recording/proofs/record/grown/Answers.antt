@@ -1,7 +1,5 @@
 -- One trace more. Assumes nothing.
-use borrow.Author.Rules.{rules}
 use Rattle.recording.proofs.RecordSteps.{one-trace-more}
-use borrow.Author.Rules.{rules}
 use Rattle.recording.proofs.record.grown.Goals as goal
 
 pub returns : goal.returns

@@ -1,9 +1,6 @@
 -- The sum, then the bound. Assumes nothing.
 use native.Mathlib.Omega.{arith}
-use borrow.Author.Rules.{rules}
-use Rattle.rules.specs.Recording as Rules
 use Rattle.recording.proofs.RecordSteps.{wrong-sum, right-sum, traces-enough}
-use borrow.Author.Rules.{rules}
 use Rattle.recording.proofs.record.record_false.Goals as goal
 
 pub returns-then-traces-ge-ENOUGH_TRACES : goal.returns-then-traces-ge-ENOUGH_TRACES

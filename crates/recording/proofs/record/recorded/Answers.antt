@@ -1,12 +1,10 @@
 -- The record is tested, the trace is judged, and the record grows. Assumes nothing.
 use native.Mathlib.Omega.{arith}
-use borrow.Author.Rules.{rules}
 use Rattle.rules.specs.Pulses.{event_lists}
 use Rattle.rules.specs.Verdicts.{contract_lists, finding_lists}
 use Rattle.rules.specs.Traces.{trace_lists}
 use Rattle.recording.specs.Held.{record_of}
 use Rattle.recording.proofs.RecordSteps.{refused-record, false-record, full-record, findings-small, few-found, sums-fit, trace-refused, trace-recorded}
-use borrow.Author.Rules.{rules}
 use Rattle.recording.proofs.record.recorded.Goals as goal
 
 pub returns-then-record_false : goal.returns-then-record_false

@@ -1,8 +1,6 @@
 -- The tallies are taken from the total in order. Assumes nothing.
-use Prim.Native.Nat.{◌-◌, ◌≤◌}
 use native.Mathlib.Omega.{arith}
-use borrow.Author.Rules.{rules}
-use Rattle.recording.proofs.Sums.{LeftAfter, left-all, left-more, too-little, nothing_left}
+use Rattle.recording.proofs.Sums.{left-all, left-more, too-little, nothing_left}
 use Rattle.recording.proofs.record.sum_is.Goals as goal
 
 pub loop-k-init : goal.loop-k-init

@@ -1,9 +1,6 @@
 -- The ids are gone through in order. Assumes nothing.
-use Prim.Native.Nat.{ℕ, ◌-◌, ◌≤◌}
 use native.Mathlib.Omega.{arith}
-use borrow.Author.Rules.{rules}
-use lib.ListN.{length, get_or}
-use Rattle.rules.proofs.Made.{Made, made_none, made_more, made_all}
+use Rattle.rules.proofs.Made.{made_none, made_more, made_all}
 use Rattle.scene.specs.Buckets.{bucket_of}
 use Rattle.scene.proofs.buckets.fill_buckets.Goals as goal
 

@@ -1,9 +1,6 @@
 -- The ids of one bucket are gone through, a few of them. Assumes nothing.
 use Prim.Native.Nat.{◌-◌, ◌≤◌}
-use native.Mathlib.Omega.{arith}
-use borrow.Author.Rules.{rules}
 use Rattle.scene.specs.Buckets.{Ahead}
-use Rattle.scene.proofs.BucketSteps.{links, ahead_more, found_here, found_nowhere}
 use Rattle.scene.proofs.buckets.find_chained.Given as goal
 
 abbrev pub invariant-loop-position : goal.invariant-loop-position

@@ -1,6 +1,5 @@
 -- The first of a bucket, else those behind it. Assumes nothing.
 use native.Mathlib.Omega.{arith}
-use borrow.Author.Rules.{rules}
 use Rattle.scene.proofs.BucketSteps.{links, ahead-all, found_here}
 use Rattle.scene.proofs.buckets.find_id.Goals as goal
 

@@ -1,5 +1,4 @@
 -- The answer of the checks, with its number and place. Assumes nothing.
-use borrow.Author.Rules.{rules}
 use Rattle.scene.proofs.IndexSteps.{checked-as}
 use Rattle.scene.proofs.check.check_scene.Goals as goal
 

@@ -1,9 +1,6 @@
 -- Assumes nothing.
 use native.Mathlib.Omega.{arith}
 use mathlib.Core.Path.{subst}
-use Prim.Native.Nat.{◌-◌, ◌≤◌}
-use lib.ListN.{length}
-use borrow.Author.Rules.{rules}
 use Rattle.rules.specs.Refusals.{component_tests}
 use Rattle.rules.proofs.FirstRefusal.{rows_start}
 use Rattle.scene.proofs.ComponentSteps.{lists, AcceptedBelow, component-refused, next-component, not-repeated}

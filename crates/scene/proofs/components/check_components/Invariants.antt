@@ -1,12 +1,7 @@
 -- Assumes nothing.
-use native.Mathlib.Omega.{arith}
-use mathlib.Core.Path.{subst}
 use Prim.Native.Nat.{◌-◌, ◌≤◌}
 use lib.ListN.{length}
-use borrow.Author.Rules.{rules}
-use Rattle.rules.specs.Refusals.{component_tests}
-use Rattle.rules.proofs.FirstRefusal.{rows_start}
-use Rattle.scene.proofs.ComponentSteps.{lists, AcceptedBelow, component-refused, next-component, not-repeated}
+use Rattle.scene.proofs.ComponentSteps.{AcceptedBelow}
 use Rattle.scene.proofs.components.check_components.Given as goal
 
 abbrev pub invariant-loop-i : goal.invariant-loop-i

@@ -2,7 +2,6 @@
 use native.Mathlib.Omega.{arith}
 use lib.ListN.{get_or}
 use Rattle.scene.proofs.Repeats.{takes-later, keeps-first, keeps-other}
-use borrow.Author.Rules.{rules}
 use Rattle.scene.proofs.components.earlier_repeat.Goals as goal
 
 pub returns-then-q-first : goal.returns-then-q-first

@@ -1,11 +1,10 @@
 -- Assumes nothing.
 use native.Mathlib.Omega.{arith}
-use mathlib.Core.Path.{◌≡◌, sym, ap, subst}
-use Prim.Native.Nat.{◌-◌, ◌≤◌, ◌<◌}
+use mathlib.Core.Path.{sym, ap, subst}
+use Prim.Native.Nat.{◌-◌, ◌<◌}
 use lib.ListN.{length, get_or}
-use borrow.Author.Rules.{rules}
 use Rattle.rules.proofs.Ordering.{ordered-length, ordered-below}
-use Rattle.scene.proofs.Repeats.{RepeatBelow, repeat-start, repeat-more, repeat-end}
+use Rattle.scene.proofs.Repeats.{repeat-start, repeat-more, repeat-end}
 use Rattle.scene.proofs.components.first_repeat.Goals as goal
 
 pub loop-k-init : goal.loop-k-init

@@ -1,11 +1,8 @@
 -- Assumes nothing.
-use native.Mathlib.Omega.{arith}
-use mathlib.Core.Path.{◌≡◌, sym, ap, subst}
-use Prim.Native.Nat.{◌-◌, ◌≤◌, ◌<◌}
-use lib.ListN.{length, get_or}
-use borrow.Author.Rules.{rules}
-use Rattle.rules.proofs.Ordering.{ordered-length, ordered-below}
-use Rattle.scene.proofs.Repeats.{RepeatBelow, repeat-start, repeat-more, repeat-end}
+use mathlib.Core.Path.{◌≡◌}
+use Prim.Native.Nat.{◌-◌, ◌≤◌}
+use lib.ListN.{length}
+use Rattle.scene.proofs.Repeats.{RepeatBelow}
 use Rattle.scene.proofs.components.first_repeat.Given as goal
 
 abbrev pub invariant-loop-k : goal.invariant-loop-k

@@ -1,7 +1,6 @@
 -- Assumes nothing.
 use native.Mathlib.Omega.{arith}
 use mathlib.Core.Path.{sym, ◌∙◌}
-use borrow.Author.Rules.{rules}
 use Rattle.scene.proofs.ConnectionSteps.{refused-transfer, a-support, no_source, no-sink, both_ends}
 use Rattle.scene.proofs.connections.look_up.Goals as goal
 

@@ -3,7 +3,6 @@ use mathlib.Core.Path.{sym}
 use lib.ListN.{length, drop}
 use lib.Seq.{length-take-le}
 use Rattle.scene.proofs.BucketSteps.{buckets-length, ids-indexed, links-length}
-use borrow.Author.Rules.{rules}
 use Rattle.scene.proofs.connections.look_up_linked.Goals as goal
 
 pub slice_bounds-index_edges-end-2 : goal.slice_bounds-index_edges-end-2

@@ -1,10 +1,8 @@
 -- Assumes nothing.
 use native.Mathlib.Omega.{arith}
-use mathlib.Core.Path.{◌≡◌, refl, ◌∙◌}
-use Prim.Native.Nat.{◌-◌, ◌≤◌}
-use lib.ListN.{length, length-set}
-use borrow.Author.Rules.{rules}
-use Rattle.scene.proofs.ConnectionSteps.{EndsBelow, ends-start, ends_more, ends-refused, ends-all, one_at_most}
+use mathlib.Core.Path.{refl, ◌∙◌}
+use lib.ListN.{length-set}
+use Rattle.scene.proofs.ConnectionSteps.{ends-start, ends_more, ends-refused, ends-all, one_at_most}
 use Rattle.scene.proofs.connections.look_up_rows.Goals as goal
 
 pub loop-j-init : goal.loop-j-init

@@ -1,10 +1,8 @@
 -- Assumes nothing.
-use native.Mathlib.Omega.{arith}
-use mathlib.Core.Path.{◌≡◌, refl, ◌∙◌}
+use mathlib.Core.Path.{◌≡◌}
 use Prim.Native.Nat.{◌-◌, ◌≤◌}
-use lib.ListN.{length, length-set}
-use borrow.Author.Rules.{rules}
-use Rattle.scene.proofs.ConnectionSteps.{EndsBelow, ends-start, ends_more, ends-refused, ends-all, one_at_most}
+use lib.ListN.{length}
+use Rattle.scene.proofs.ConnectionSteps.{EndsBelow}
 use Rattle.scene.proofs.connections.look_up_rows.Given as goal
 
 abbrev pub invariant-loop-j : goal.invariant-loop-j

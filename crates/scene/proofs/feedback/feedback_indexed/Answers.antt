@@ -8,7 +8,6 @@ use Rattle.rules.specs.Scene.{component_lists, connection_lists}
 use Rattle.rules.specs.Refusals.{scene_limits, room_outputs}
 use Rattle.rules.proofs.Acceptance.{accepted→}
 use Rattle.scene.proofs.SceneFeedback.{call-refused, call-listed}
-use borrow.Author.Rules.{rules}
 use Rattle.scene.proofs.feedback.feedback_indexed.Goals as goal
 
 pub slice_bounds-active_feedback_components-end : goal.slice_bounds-active_feedback_components-end

@@ -1,6 +1,5 @@
 -- Assumes nothing.
 use native.Mathlib.Omega.{arith}
-use borrow.Author.Rules.{rules}
 use Rattle.scene.proofs.IndexSteps.{sorted_front}
 use Rattle.scene.proofs.index.order_ids.Goals as goal
 

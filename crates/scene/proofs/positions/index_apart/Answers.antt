@@ -3,7 +3,6 @@ use lib.ListN.{length}
 use Rattle.rules.specs.Scene.{component_lists, connection_lists}
 use Rattle.rules.specs.Refusals.{room_outputs}
 use Rattle.scene.proofs.PositionSteps.{room-kept, given-refused, found-fits, given-accepted}
-use borrow.Author.Rules.{rules}
 use Rattle.scene.proofs.positions.index_apart.Goals as goal
 
 -- src/positions.rt:120:13

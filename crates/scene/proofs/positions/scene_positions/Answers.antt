@@ -1,7 +1,6 @@
 -- The scene is indexed where the lists lent have room. Assumes nothing.
 use mathlib.Core.Path.{sym, ◌∙◌}
 use Rattle.scene.proofs.PositionSteps.{fitting-room, positioned, untested}
-use borrow.Author.Rules.{rules}
 use Rattle.scene.proofs.positions.scene_positions.Goals as goal
 
 pub index_lent-index-requires : goal.index_lent-index-requires

@@ -1,12 +1,10 @@
 -- The numbers are gone through in order. Assumes nothing.
 use mathlib.Core.List.{map-id}
 use mathlib.Core.Path.{refl, ap, ◌∙◌}
-use Prim.Native.Nat.{ℕ, ◌-◌, ◌≤◌}
+use Prim.Native.Nat.{ℕ}
 use native.Mathlib.Omega.{arith}
-use borrow.Author.Rules.{rules}
-use lib.ListN.{length, get_or}
 use Rattle.rules.specs.Lists.{written}
-use Rattle.rules.proofs.Made.{Made, made_none, made_more, made_all}
+use Rattle.rules.proofs.Made.{made_none, made_more, made_all}
 use Rattle.scene.proofs.positions.write_front.Goals as goal
 
 pub loop-i-init : goal.loop-i-init

@@ -1,10 +1,9 @@
 -- Assumes nothing.
 use native.Mathlib.Omega.{arith}
-use mathlib.Core.Path.{◌≡◌, refl, sym, subst, ◌∙◌}
-use Prim.Native.Nat.{◌-◌, ◌≤◌, ◌<◌}
-use lib.ListN.{length, get_or}
-use borrow.Author.Rules.{rules}
-use Rattle.scene.proofs.Room.{room_left, room-more, room-short, room-past, room-end}
+use mathlib.Core.Path.{refl, sym, subst, ◌∙◌}
+use Prim.Native.Nat.{◌<◌}
+use lib.ListN.{get_or}
+use Rattle.scene.proofs.Room.{room-more, room-short, room-past, room-end}
 use Rattle.scene.proofs.sizes.check_room.Goals as goal
 
 pub loop-k-init : goal.loop-k-init

@@ -1,10 +1,8 @@
 -- Assumes nothing.
-use native.Mathlib.Omega.{arith}
-use mathlib.Core.Path.{◌≡◌, refl, sym, subst, ◌∙◌}
-use Prim.Native.Nat.{◌-◌, ◌≤◌, ◌<◌}
-use lib.ListN.{length, get_or}
-use borrow.Author.Rules.{rules}
-use Rattle.scene.proofs.Room.{room_left, room-more, room-short, room-past, room-end}
+use mathlib.Core.Path.{◌≡◌}
+use Prim.Native.Nat.{◌-◌, ◌≤◌}
+use lib.ListN.{length}
+use Rattle.scene.proofs.Room.{room_left}
 use Rattle.scene.proofs.sizes.check_room.Given as goal
 
 abbrev pub invariant-loop-k : goal.invariant-loop-k

@@ -1,6 +1,5 @@
 -- Assumes nothing.
 use native.Mathlib.Omega.{arith}
-use borrow.Author.Rules.{rules}
 use lib.ListN.{length}
 use Rattle.rules.specs.Scene.{component_lists, connection_lists}
 use Rattle.rules.specs.Refusals.{scene_limits, component_lengths, connection_lengths, room_outputs}

@@ -1,9 +1,7 @@
 -- The needs, case by case. Assumes nothing.
 use native.Mathlib.Omega.{arith}
-use Prim.Native.Nat.{◌<◌}
 use mathlib.Core.Path.{refl, sym}
 use Rattle.scene.proofs.Room.{past-lists}
-use borrow.Author.Rules.{rules}
 use Rattle.scene.proofs.sizes.need_of.Goals as goal
 
 pub returns-in-2 : goal.returns-in-2

@@ -1,6 +1,5 @@
 -- `report_scene` hands the lists of the call to the writer, or writes the refusal. Assumes nothing.
 use borrow.Author.Rules.{rules}
-use native.Mathlib.Omega.{arith}
 use Rattle.rules.specs.Scene.{component_lists, connection_lists}
 use Rattle.text.proofs.AnswerSteps.{refusal-fits}
 use Rattle.text.proofs.SceneReport.{scene-refused, scene-reported, scene-within, scene-room, fresh_lists, fresh-sized, put_same}

@@ -2,7 +2,6 @@
 use native.Mathlib.Omega.{arith}
 use lib.ListN.{length-set}
 use Rattle.text.proofs.DigitSteps.{one-room, one-put, tenth-room, last-room, more-put}
-use Prim.Native.Nat.{ℕ, ◌<◌}
 use Rattle.text.proofs.put.+put_number.Goals as goal
 
 pub overflow_cast-out : goal.overflow_cast-out

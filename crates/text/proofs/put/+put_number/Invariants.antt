@@ -1,8 +1,4 @@
 -- The digits of the tenth, then the last. The measure is the number. Assumes nothing.
-use native.Mathlib.Omega.{arith}
-use lib.ListN.{length-set}
-use Rattle.text.proofs.DigitSteps.{one-room, one-put, tenth-room, last-room, more-put}
-use Prim.Native.Nat.{ℕ, ◌<◌}
 use Rattle.text.proofs.put.+put_number.Given as goal
 
 abbrev pub decreases-put_number : goal.decreases-put_number

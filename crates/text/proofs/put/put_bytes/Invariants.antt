@@ -1,11 +1,7 @@
 -- Byte by byte. Assumes nothing.
-use mathlib.Core.Path.{refl}
 use Prim.Native.Nat.{ℕ, ◌-◌, ◌≤◌}
-use native.Mathlib.Omega.{arith}
-use borrow.Author.Rules.{rules}
 use lib.ListN.{length, get_or}
-use Rattle.rules.proofs.Made.{Made, made_none, made_more}
-use Rattle.text.proofs.PutSteps.{put-made}
+use Rattle.rules.proofs.Made.{Made}
 use Rattle.text.proofs.put.put_bytes.Given as goal
 
 abbrev pub invariant-loop-i : goal.invariant-loop-i

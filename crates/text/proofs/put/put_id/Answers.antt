@@ -1,6 +1,5 @@
 -- The first id has no comma. Assumes nothing.
 use borrow.Author.Tests.{eq-eqb, ne_eqb}
-use borrow.Author.Rules.{rules}
 use Rattle.text.proofs.put.put_id.Goals as goal
 
 pub put_number-requires : goal.put_number-requires

@@ -1,11 +1,7 @@
 -- The ids are put one after the other. Assumes nothing.
-use mathlib.Core.Path.{◌≡◌}
 use Prim.Native.Nat.{◌-◌, ◌≤◌}
-use native.Mathlib.Omega.{arith}
-use borrow.Author.Rules.{rules}
 use lib.ListN.{length}
 use Rattle.text.specs.ReportLists.{Put, rows, id_row}
-use Rattle.text.proofs.PutSteps.{put-size, rows_none, rows-room, rows_more, ids-rows}
 use Rattle.text.proofs.put.put_ids.Given as goal
 
 abbrev pub invariant-loop-i : goal.invariant-loop-i

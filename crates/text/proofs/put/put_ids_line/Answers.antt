@@ -1,6 +1,5 @@
 -- The name, the ids and the line's end. Assumes nothing.
 use Rattle.text.proofs.PutSteps.{room-first, room_next, put_next}
-use borrow.Author.Rules.{rules}
 use Rattle.text.proofs.put.put_ids_line.Goals as goal
 
 pub put_bytes-at-requires : goal.put_bytes-at-requires

@@ -6,7 +6,6 @@ use Rattle.rules.specs.Text.{place, component}
 use Rattle.text.specs.Filled.{ComponentsListed}
 use Rattle.text.proofs.ReadRows.{field-broken, field-value}
 use Rattle.text.proofs.SceneSteps.{counted_none, counted-broken, counted-found}
-use borrow.Author.Rules.{rules}
 use Rattle.text.proofs.reading.counted_components.Goals as goal
 
 pub read_components-rows-requires : goal.read_components-rows-requires

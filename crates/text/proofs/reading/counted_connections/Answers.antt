@@ -7,7 +7,6 @@ use Rattle.rules.specs.Text.{place, connection}
 use Rattle.text.specs.Filled.{ConnectionsListed}
 use Rattle.text.proofs.ReadRows.{field-broken, field-value}
 use Rattle.text.proofs.SceneSteps.{counted_none, counted-broken, counted-found, value_on}
-use borrow.Author.Rules.{rules}
 use Rattle.text.proofs.reading.counted_connections.Goals as goal
 
 pub read_connections-rows-requires : goal.read_connections-rows-requires

@@ -1,14 +1,10 @@
 -- `read_components` reads components one by one: the invariant is `Filling`. Assumes nothing.
-use borrow.Author.Rules.{rules}
 use Prim.Native.Nat.{◌-◌, ◌≤◌}
-use native.Mathlib.Omega.{arith}
 use lib.ListN.{drop}
 use Rattle.rules.specs.Scene.{component_lists}
 use Rattle.rules.specs.Text.{place, component}
 use Rattle.text.specs.Filled.{ComponentsListed}
-use Rattle.reader.specs.Readings.{component_of}
-use Rattle.text.proofs.RowSteps.{Filling, filling-none, filling-more, filling-broken, filling-all, component-listed, components-none}
-use Rattle.text.proofs.ReadRows.{component-broken, component-read}
+use Rattle.text.proofs.RowSteps.{Filling}
 use Rattle.text.proofs.reading.read_components.Given as goal
 
 abbrev pub invariant-loop-i : goal.invariant-loop-i

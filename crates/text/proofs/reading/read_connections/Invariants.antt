@@ -1,14 +1,10 @@
 -- `read_connections` reads connections one by one: the invariant is `Filling`. Assumes nothing.
-use borrow.Author.Rules.{rules}
 use Prim.Native.Nat.{◌-◌, ◌≤◌}
-use native.Mathlib.Omega.{arith}
 use lib.ListN.{drop}
 use Rattle.rules.specs.Scene.{connection_lists}
 use Rattle.rules.specs.Text.{place, connection}
 use Rattle.text.specs.Filled.{ConnectionsListed}
-use Rattle.reader.specs.Readings.{connection_of}
-use Rattle.text.proofs.RowSteps.{Filling, filling-none, filling-more, filling-broken, filling-all, connection-listed, connections-none}
-use Rattle.text.proofs.ReadRows.{connection-broken, connection-read}
+use Rattle.text.proofs.RowSteps.{Filling}
 use Rattle.text.proofs.reading.read_connections.Given as goal
 
 abbrev pub invariant-loop-i : goal.invariant-loop-i

@@ -4,7 +4,6 @@ use Rattle.rules.specs.Bytes.{bytes}
 use Rattle.rules.specs.Text.{place, counted, component, connection}
 use Rattle.text.specs.Filled.{ComponentsListed, ConnectionsListed}
 use Rattle.text.proofs.SceneSteps.{part-broken, part-found, scene-without-components, scene-without-connections, scene-goes-on, scene-whole}
-use borrow.Author.Rules.{rules}
 use Rattle.text.proofs.reading.read_scene.Goals as goal
 
 pub counted_connections-second-requires : goal.counted_connections-second-requires

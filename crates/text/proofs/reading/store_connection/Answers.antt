@@ -1,6 +1,5 @@
 -- `store_connection` stores each field of a connection. Assumes nothing.
 use lib.Seq.{take-suc-set}
-use borrow.Author.Rules.{rules}
 use Rattle.text.proofs.reading.store_connection.Goals as goal
 
 pub returns : goal.returns

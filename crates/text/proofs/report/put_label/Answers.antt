@@ -2,7 +2,6 @@
 use Rattle.rules.specs.Report.{label_lines}
 use Rattle.text.proofs.PutSteps.{room-first, room_next, put_next}
 use Rattle.text.proofs.ReportSteps.{label-unsettled, label-between}
-use borrow.Author.Rules.{rules}
 use Rattle.text.proofs.report.put_label.Goals as goal
 
 pub put_line-at-requires : goal.put_line-at-requires

@@ -1,10 +1,8 @@
 -- The labels are put one after the other. Assumes nothing.
 use mathlib.Core.Path.{◌≡◌}
-use Prim.Native.Nat.{◌-◌, ◌≤◌}
 use native.Mathlib.Omega.{arith}
-use borrow.Author.Rules.{rules}
 use lib.ListN.{length}
-use Rattle.text.specs.ReportLists.{Put, rows, label_row}
+use Rattle.text.specs.ReportLists.{label_row}
 use Rattle.text.proofs.PutSteps.{put-size, rows_none, rows-room, rows_more}
 use Rattle.text.proofs.report.put_labels.Goals as goal
 

@@ -1,5 +1,4 @@
 -- Each pattern has its line. Assumes nothing.
-use borrow.Author.Rules.{rules}
 use Rattle.text.proofs.report.put_pattern.Goals as goal
 
 pub put_bytes-requires : goal.put_bytes-requires

@@ -1,7 +1,6 @@
 -- Six lines. Assumes nothing.
 use Rattle.rules.specs.Report.{projected_lines}
 use Rattle.text.proofs.PutSteps.{room-first, room_next, put_next}
-use borrow.Author.Rules.{rules}
 use Rattle.text.proofs.report.put_projected.Goals as goal
 
 pub put_line-at-requires : goal.put_line-at-requires

@@ -1,11 +1,6 @@
 -- The projected edges are put one after the other. Assumes nothing.
-use mathlib.Core.Path.{◌≡◌}
 use Prim.Native.Nat.{◌-◌, ◌≤◌}
-use native.Mathlib.Omega.{arith}
-use borrow.Author.Rules.{rules}
-use Rattle.rules.specs.Assess.{stored_edge}
 use Rattle.text.specs.ReportLists.{Put, rows, edge_lists, projected_row}
-use Rattle.text.proofs.PutSteps.{put-size, rows_none, rows-room, rows_more}
 use Rattle.text.proofs.report.put_projection.Given as goal
 
 abbrev pub invariant-loop-i : goal.invariant-loop-i

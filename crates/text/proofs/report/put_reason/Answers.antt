@@ -1,7 +1,6 @@
 -- Each kind of reason has its line. Assumes nothing.
 use Rattle.text.proofs.PutSteps.{room-first, room_next, put_next}
 use Rattle.text.proofs.ReportSteps.{reason-unequal, reason-feedback, reason-stateful, reason-locked}
-use borrow.Author.Rules.{rules}
 use Rattle.text.proofs.report.put_reason.Goals as goal
 
 pub put_named-at-requires : goal.put_named-at-requires

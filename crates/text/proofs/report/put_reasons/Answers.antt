@@ -1,9 +1,7 @@
 -- The reasons are put one after the other. Assumes nothing.
 use mathlib.Core.Path.{◌≡◌}
-use Prim.Native.Nat.{◌-◌, ◌≤◌}
 use native.Mathlib.Omega.{arith}
-use borrow.Author.Rules.{rules}
-use Rattle.text.specs.ReportLists.{Put, rows, reason_row}
+use Rattle.text.specs.ReportLists.{reason_row}
 use Rattle.text.proofs.PutSteps.{put-size, rows_none, rows-room, rows_more}
 use Rattle.text.proofs.report.put_reasons.Goals as goal
 

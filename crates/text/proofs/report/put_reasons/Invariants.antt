@@ -1,10 +1,6 @@
 -- The reasons are put one after the other. Assumes nothing.
-use mathlib.Core.Path.{◌≡◌}
 use Prim.Native.Nat.{◌-◌, ◌≤◌}
-use native.Mathlib.Omega.{arith}
-use borrow.Author.Rules.{rules}
 use Rattle.text.specs.ReportLists.{Put, rows, reason_row}
-use Rattle.text.proofs.PutSteps.{put-size, rows_none, rows-room, rows_more}
 use Rattle.text.proofs.report.put_reasons.Given as goal
 
 abbrev pub invariant-loop-i : goal.invariant-loop-i

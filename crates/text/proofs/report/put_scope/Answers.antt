@@ -1,5 +1,4 @@
 -- Each scope has its line. Assumes nothing.
-use borrow.Author.Rules.{rules}
 use Rattle.text.proofs.report.put_scope.Goals as goal
 
 pub put_bytes-requires : goal.put_bytes-requires

@@ -1,7 +1,6 @@
 -- The number, then the place. Assumes nothing.
 use Rattle.rules.specs.Report.{refusal_text}
 use Rattle.text.proofs.PutSteps.{room-first, room_next, put_next}
-use borrow.Author.Rules.{rules}
 use Rattle.text.proofs.report.write_refusal.Goals as goal
 
 pub put_line-at-requires : goal.put_line-at-requires

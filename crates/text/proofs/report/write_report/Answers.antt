@@ -4,7 +4,6 @@ use lib.Seq.{length-take-le}
 use Rattle.rules.specs.Assess.{stored_edge}
 use Rattle.text.specs.ReportLists.{projected_row, report_by}
 use Rattle.text.proofs.PutSteps.{room-first, room_next, put_next, put-size}
-use borrow.Author.Rules.{rules}
 use Rattle.text.proofs.report.write_report.Goals as goal
 
 pub slice_bounds-feedback-end : goal.slice_bounds-feedback-end

@@ -7,7 +7,6 @@ use Rattle.rules.proofs.FirstRefusal.{flag-clear}
 use lib.ListN.{length}
 use Prim.Native.Nat.{◌+◌}
 use Rattle.transient.proofs.CheckSteps.{events-differ, contracts-differ, many-events, many-contracts, findings-short, then-values}
-use borrow.Author.Rules.{rules}
 use Rattle.transient.proofs.check.check_trace.Goals as goal
 
 pub returns-then-lengths_differ : goal.returns-then-lengths_differ

@@ -3,7 +3,6 @@ use Rattle.rules.specs.Pulses.{event_lists}
 use Rattle.rules.specs.Verdicts.{contract_lists}
 use Rattle.rules.specs.Traces.{trace_lists, event_count, contract_count}
 use Rattle.transient.proofs.CheckSteps.{unit-out, event-refused, then-contracts}
-use borrow.Author.Rules.{rules}
 use Rattle.transient.proofs.check.check_values.Goals as goal
 
 pub returns-then-unit-gt1 : goal.returns-then-unit-gt1

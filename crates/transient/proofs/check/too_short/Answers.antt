@@ -1,5 +1,4 @@
 -- The room before the place, and past it. Assumes nothing.
-use borrow.Author.Rules.{rules}
 use Rattle.transient.proofs.CheckSteps.{before-start, past-start}
 use Rattle.transient.proofs.check.too_short.Goals as goal
 

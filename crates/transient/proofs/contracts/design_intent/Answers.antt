@@ -1,11 +1,9 @@
 -- The component is looked up among the contracts. Assumes nothing.
 use mathlib.Core.Path.{◌∙◌, ap}
 use native.Mathlib.Omega.{arith}
-use borrow.Author.Rules.{rules}
 use Rattle.rules.specs.Verdicts.{contract_lists, contract_at, intent_of}
 use Rattle.rules.specs.declared.transient.DesignIntent.TheVariants.{Registered}
 use Rattle.transient.proofs.ContractSteps.{registered, not-registered, position_in}
-use borrow.Author.Rules.{rules}
 use Rattle.transient.proofs.contracts.design_intent.Goals as goal
 
 pub bounds-contract_intents-p : goal.bounds-contract_intents-p

@@ -1,15 +1,9 @@
 -- The places are gone through in order. Assumes nothing.
-use mathlib.Core.Path.{refl}
 use mathlib.Core.Bool.{cond}
-use Prim.Native.Nat.{ℕ, ◌+◌, ◌-◌, ◌≤◌}
-use native.Mathlib.Omega.{arith}
-use borrow.Author.Rules.{rules}
-use lib.ListN.{length, get_or}
-use Rattle.rules.specs.Codes.{polarity_code, unit_code, unit_of}
-use Rattle.rules.specs.Pulses.{event_lists, event_at, pulse_of}
-use Rattle.rules.specs.Windows.{pulse_at}
-use Rattle.rules.proofs.Made.{made_none, made_more, made_all}
-use Rattle.transient.proofs.FieldSteps.{FieldBelow, unit-number, window-in, first-in, second-in, third-in}
+use Prim.Native.Nat.{◌-◌, ◌≤◌}
+use lib.ListN.{length}
+use Rattle.rules.specs.Pulses.{event_lists}
+use Rattle.transient.proofs.FieldSteps.{FieldBelow}
 use Rattle.transient.proofs.fields.list_evidence.Given as goal
 
 abbrev pub invariant-loop-j : goal.invariant-loop-j

@@ -1,12 +1,10 @@
 -- The contract is looked up and the pulse is held against it. Assumes nothing.
 use native.Mathlib.Omega.{arith}
 use Prim.Native.Nat.{◌+◌}
-use borrow.Author.Rules.{rules}
 use Rattle.rules.specs.Pulses.{event_at, pulse_of}
 use Rattle.rules.specs.Verdicts.{contract_lists, contracts_of}
 use Rattle.rules.specs.Windows.{pulse_at}
 use Rattle.transient.proofs.JudgeSteps.{judged-here}
-use borrow.Author.Rules.{rules}
 use Rattle.transient.proofs.judging.judge.Goals as goal
 
 pub overflow_add-second : goal.overflow_add-second

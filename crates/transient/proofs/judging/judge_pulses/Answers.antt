@@ -1,15 +1,14 @@
 -- The places are gone through in order. Assumes nothing.
 use mathlib.Core.Path.{refl, ap, ◌∙◌}
-use Prim.Native.Nat.{ℕ, ◌+◌, ◌-◌, ◌≤◌}
+use Prim.Native.Nat.{ℕ, ◌+◌}
 use native.Mathlib.Omega.{arith}
-use borrow.Author.Rules.{rules}
-use lib.ListN.{length, get_or}
-use Rattle.rules.specs.Codes.{verdict_code, unit_of}
+use lib.ListN.{get_or}
+use Rattle.rules.specs.Codes.{verdict_code}
 use Rattle.rules.specs.Pulses.{event_lists}
 use Rattle.rules.specs.Verdicts.{contract_lists, contracts_of, finding_verdict, finding_rationale}
-use Rattle.rules.proofs.Made.{Made, made_none, made_more, made_all}
+use Rattle.rules.proofs.Made.{made_none, made_more, made_all}
 use Rattle.transient.specs.Judged.{found}
-use Rattle.transient.proofs.JudgeSteps.{TalliedBelow, tallied-none, tallied-more, tallied-few, tallied-all}
+use Rattle.transient.proofs.JudgeSteps.{tallied-none, tallied-more, tallied-few, tallied-all}
 use Rattle.transient.proofs.judging.judge_pulses.Goals as goal
 
 pub loop-j-init : goal.loop-j-init

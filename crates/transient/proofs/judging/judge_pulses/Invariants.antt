@@ -1,15 +1,11 @@
 -- The places are gone through in order. Assumes nothing.
-use mathlib.Core.Path.{refl, ap, ◌∙◌}
-use Prim.Native.Nat.{ℕ, ◌+◌, ◌-◌, ◌≤◌}
-use native.Mathlib.Omega.{arith}
-use borrow.Author.Rules.{rules}
+use Prim.Native.Nat.{ℕ, ◌-◌, ◌≤◌}
 use lib.ListN.{length, get_or}
-use Rattle.rules.specs.Codes.{verdict_code, unit_of}
 use Rattle.rules.specs.Pulses.{event_lists}
 use Rattle.rules.specs.Verdicts.{contract_lists, contracts_of, finding_verdict, finding_rationale}
-use Rattle.rules.proofs.Made.{Made, made_none, made_more, made_all}
+use Rattle.rules.proofs.Made.{Made}
 use Rattle.transient.specs.Judged.{found}
-use Rattle.transient.proofs.JudgeSteps.{TalliedBelow, tallied-none, tallied-more, tallied-few, tallied-all}
+use Rattle.transient.proofs.JudgeSteps.{TalliedBelow}
 use Rattle.transient.proofs.judging.judge_pulses.Given as goal
 
 abbrev pub invariant-loop-j : goal.invariant-loop-j

@@ -1,11 +1,9 @@
 -- The places of the row are gone through in order. Assumes nothing.
-use mathlib.Core.Path.{◌≡◌, refl, ◌∙◌}
-use Prim.Native.Nat.{◌-◌, ◌≤◌}
+use mathlib.Core.Path.{refl, ◌∙◌}
 use native.Mathlib.Omega.{arith}
-use lib.ListN.{length, length-set}
-use borrow.Author.Rules.{rules}
+use lib.ListN.{length-set}
 use Rattle.rules.specs.Pulses.{event_lists}
-use Rattle.transient.proofs.PulseSteps.{FoundBelow, found_none, found-more, found_all, counts-once}
+use Rattle.transient.proofs.PulseSteps.{found_none, found-more, found_all, counts-once}
 use Rattle.transient.proofs.pulses.observe_pulses.Goals as goal
 
 pub loop-k-init : goal.loop-k-init

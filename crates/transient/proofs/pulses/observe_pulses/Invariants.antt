@@ -1,11 +1,9 @@
 -- The places of the row are gone through in order. Assumes nothing.
-use mathlib.Core.Path.{◌≡◌, refl, ◌∙◌}
+use mathlib.Core.Path.{◌≡◌}
 use Prim.Native.Nat.{◌-◌, ◌≤◌}
-use native.Mathlib.Omega.{arith}
-use lib.ListN.{length, length-set}
-use borrow.Author.Rules.{rules}
+use lib.ListN.{length}
 use Rattle.rules.specs.Pulses.{event_lists}
-use Rattle.transient.proofs.PulseSteps.{FoundBelow, found_none, found-more, found_all, counts-once}
+use Rattle.transient.proofs.PulseSteps.{FoundBelow}
 use Rattle.transient.proofs.pulses.observe_pulses.Given as goal
 
 abbrev pub invariant-loop-k : goal.invariant-loop-k

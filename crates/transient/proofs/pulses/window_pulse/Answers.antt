@@ -3,7 +3,6 @@ use native.Mathlib.Omega.{arith}
 use Prim.Native.Nat.{◌+◌}
 use Rattle.rules.specs.Pulses.{event_at, is_pulse}
 use Rattle.transient.proofs.PulseSteps.{of-two-components, of-one-component}
-use borrow.Author.Rules.{rules}
 use Rattle.transient.proofs.pulses.window_pulse.Goals as goal
 
 pub offset_bounds-components-first : goal.offset_bounds-components-first

@@ -1,13 +1,6 @@
 -- The contracts are gone through in order. Assumes nothing.
-use mathlib.Core.Path.{◌≡◌}
-use Prim.Native.Nat.{◌-◌, ◌≤◌}
 use native.Mathlib.Omega.{arith}
-use lib.ListN.{length}
-use borrow.Author.Rules.{rules}
-use Rattle.rules.specs.Refusals.{first_refusal, rows}
 use Rattle.rules.specs.Verdicts.{contract_lists}
-use Rattle.rules.specs.Traces.{contract_tests}
-use Rattle.rules.specs.declared.answers.Checked.TheVariants.{Accepted}
 use Rattle.rules.proofs.FirstRefusal.{rows_start}
 use Rattle.transient.proofs.RowSteps.{contract-out, contract-low, next-contract, all-contracts}
 use Rattle.transient.proofs.rows.check_contracts.Goals as goal

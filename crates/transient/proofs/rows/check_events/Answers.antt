@@ -1,13 +1,9 @@
 -- The events are gone through in order. Assumes nothing.
-use mathlib.Core.Path.{◌≡◌}
-use Prim.Native.Nat.{◌-◌, ◌≤◌}
 use native.Mathlib.Omega.{arith}
 use lib.ListN.{length}
-use borrow.Author.Rules.{rules}
 use Rattle.rules.specs.Pulses.{event_lists}
-use Rattle.rules.specs.declared.answers.Checked.TheVariants.{Accepted}
 use Rattle.rules.proofs.FirstRefusal.{rows_start}
-use Rattle.transient.proofs.RowSteps.{event_rows, all-events, event-out, next-event}
+use Rattle.transient.proofs.RowSteps.{all-events, event-out, next-event}
 use Rattle.transient.proofs.rows.check_events.Goals as goal
 
 pub loop-i-init : goal.loop-i-init

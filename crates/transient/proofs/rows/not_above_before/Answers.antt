@@ -1,7 +1,5 @@
 -- The first contract has none before it. Assumes nothing.
-use borrow.Author.Rules.{rules}
 use Rattle.transient.proofs.RowSteps.{none_before, held-against}
-use borrow.Author.Rules.{rules}
 use Rattle.transient.proofs.rows.not_above_before.Goals as goal
 
 pub returns-then-i-eq0 : goal.returns-then-i-eq0

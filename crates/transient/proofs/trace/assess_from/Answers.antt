@@ -1,14 +1,12 @@
 -- The trace is tested; its pulses are found and judged. Assumes nothing.
 use mathlib.Core.Path.{sym}
 use native.Mathlib.Omega.{arith}
-use borrow.Author.Rules.{rules}
 use lib.ListN.{length}
 use lib.Seq.{length-take-le}
 use Rattle.rules.specs.Pulses.{event_lists}
 use Rattle.rules.specs.Verdicts.{contract_lists, finding_lists, finding_lengths}
 use Rattle.rules.specs.Traces.{event_count}
 use Rattle.transient.proofs.TraceSteps.{checked-by, refused-call, accepted-trace, accepted-room, accepted-call, found-few, found-count, found-windows}
-use borrow.Author.Rules.{rules}
 use Rattle.transient.proofs.trace.assess_from.Goals as goal
 
 pub find_pulses-count-requires : goal.find_pulses-count-requires

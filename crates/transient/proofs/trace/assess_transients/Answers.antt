@@ -1,10 +1,8 @@
 -- From the front. Assumes nothing.
-use borrow.Author.Rules.{rules}
 use Rattle.rules.specs.Pulses.{event_lists}
 use Rattle.rules.specs.Verdicts.{contract_lists, finding_lists}
 use Rattle.rules.specs.Traces.{trace_lists}
 use Rattle.transient.proofs.TraceSteps.{from_front}
-use borrow.Author.Rules.{rules}
 use Rattle.transient.proofs.trace.assess_transients.Goals as goal
 
 pub shape_of-finding_components : goal.shape_of-finding_components

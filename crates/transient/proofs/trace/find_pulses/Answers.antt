@@ -1,11 +1,9 @@
 -- The events are ordered, and the windows of the row are gone through. Assumes nothing.
 use mathlib.Core.Path.{sym}
 use native.Mathlib.Omega.{arith}
-use borrow.Author.Rules.{rules}
 use lib.ListN.{length}
 use lib.Seq.{length-take-le}
 use Rattle.transient.proofs.TraceSteps.{front-row, front_length, sorted-pulses}
-use borrow.Author.Rules.{rules}
 use Rattle.transient.proofs.trace.find_pulses.Goals as goal
 
 pub slice_bounds-observe_pulses-end-2 : goal.slice_bounds-observe_pulses-end-2

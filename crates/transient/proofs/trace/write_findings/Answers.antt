@@ -1,11 +1,8 @@
 -- The pulses' own fields, the evidence, the verdicts. Assumes nothing.
-use native.Mathlib.Omega.{arith}
-use borrow.Author.Rules.{rules}
 use lib.ListN.{length}
 use Rattle.rules.specs.Pulses.{event_lists}
 use Rattle.rules.specs.Verdicts.{contract_lists, contracts_of, finding_lists}
-use Rattle.transient.proofs.TraceSteps.{FindingRooms, rooms, all-fields}
-use borrow.Author.Rules.{rules}
+use Rattle.transient.proofs.TraceSteps.{rooms, all-fields}
 use Rattle.transient.proofs.trace.write_findings.Goals as goal
 
 pub list_pulses-requires : goal.list_pulses-requires
