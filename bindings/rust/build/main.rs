@@ -33,7 +33,7 @@ fn link(here: &Path) {
     println!("cargo::rustc-link-lib=static=sizhbanto");
     if !archive.is_file() {
         println!(
-            "cargo::error=there is no {}: run `rt staticlib sizhbanto` at the top of the repository first",
+            "cargo::error=there is no {}: run tools/build_library at the top of the repository first",
             archive.display()
         );
     }

@@ -16,14 +16,14 @@ impl Program {
     pub fn found() -> Result<Self, String> {
         let path = match env::var_os("SIZHBANTO_REPORT") {
             Some(path) => PathBuf::from(path),
-            None => crate::examples::repository().join("target/bin/report"),
+            None => crate::examples::repository().join("crates/report/out/report"),
         };
         if path.is_file() {
             return Ok(Self(path));
         }
         let path = path.display();
         Err(format!(
-            "there is no {path}: run `rt check report` at the top of the repository first"
+            "there is no {path}: run tools/build_report at the top of the repository first"
         ))
     }
 
