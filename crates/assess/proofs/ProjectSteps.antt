@@ -21,18 +21,18 @@ fresh-room =
     let few = length-replicate {A = ℕ} scene_limits.components 0 in
     let many = length-replicate {A = ℕ} scene_limits.connections 0 in
     record {
-      low-room = omega (arith, few);
-      inverts-room = omega (arith, few);
-      compressible-room = omega (arith, few);
-      head-room = omega (arith, few);
-      next-room = omega (arith, many);
-      incoming-room = omega (arith, few);
-      firsts-room = omega (arith, many);
+      low_room = omega (arith, few);
+      inverts_room = omega (arith, few);
+      compressible_room = omega (arith, few);
+      head_room = omega (arith, few);
+      next_room = omega (arith, many);
+      incoming_room = omega (arith, few);
+      firsts_room = omega (arith, many);
     }
 
-delays-length : (kinds delays : List ℕ) → length (delays_of kinds delays) ≡ length kinds
+delays_length : (kinds delays : List ℕ) → length (delays_of kinds delays) ≡ length kinds
 unfolding delays_of
-delays-length kinds delays = made-length _ (length kinds)
+delays_length kinds delays = made-length _ (length kinds)
 
 inverts-length : (kinds : List ℕ) → length (inverts_of kinds) ≡ length kinds
 unfolding inverts_of
@@ -49,52 +49,52 @@ module _ {ids kinds delays starts stops : List ℕ} {edges : ℕ} {order marks :
       (filled : (low' ≡ written low (delays_of kinds delays)) × ((inverts' ≡ written inverts (inverts_of kinds)) × (compressible' ≡ written compressible (compressible_of kinds))))
       (low-kept : length low' ≡ length low) (inverts-kept : length inverts' ≡ length inverts) (compressible-kept : length compressible' ≡ length compressible) where
     low-front : take (length ids) low' ≡ delays_of kinds delays
-    low-front = ap (take (length ids)) filled.0 ∙ written-front low (delays_of kinds delays) (length ids) (delays-length kinds delays ∙ ready.kinds-length)
+    low-front = ap (take (length ids)) filled.0 ∙ written-front low (delays_of kinds delays) (length ids) (delays_length kinds delays ∙ ready.kinds_length)
 
     inverts-front : take (length ids) inverts' ≡ inverts_of kinds
-    inverts-front = ap (take (length ids)) filled.1.0 ∙ written-front inverts (inverts_of kinds) (length ids) (inverts-length kinds ∙ ready.kinds-length)
+    inverts-front = ap (take (length ids)) filled.1.0 ∙ written-front inverts (inverts_of kinds) (length ids) (inverts-length kinds ∙ ready.kinds_length)
 
     compressible-front : take (length ids) compressible' ≡ compressible_of kinds
-    compressible-front = ap (take (length ids)) filled.1.1 ∙ written-front compressible (compressible_of kinds) (length ids) (compressible-length kinds ∙ ready.kinds-length)
+    compressible-front = ap (take (length ids)) filled.1.1 ∙ written-front compressible (compressible_of kinds) (length ids) (compressible-length kinds ∙ ready.kinds_length)
 
     pub nodes-lent : NodesLent (length ids) edges starts stops order low' inverts' compressible'
     nodes-lent = record {
       positions = ready.positions;
-      low-room = omega (arith, ready.nodes-few, work.low-room);
-      inverts-room = omega (arith, ready.nodes-few, work.inverts-room);
-      compressible-room = omega (arith, ready.nodes-few, work.compressible-room);
+      low_room = omega (arith, ready.nodes_few, work.low_room);
+      inverts_room = omega (arith, ready.nodes_few, work.inverts_room);
+      compressible_room = omega (arith, ready.nodes_few, work.compressible_room);
     }
 
     edge-starts : length (take edges starts) ≡ edges
-    edge-starts = length-take-le edges starts ready.positions.starts-room
+    edge-starts = length-take-le edges starts ready.positions.starts_room
 
     edge-stops : length (take edges stops) ≡ edges
-    edge-stops = length-take-le edges stops ready.positions.stops-room
+    edge-stops = length-take-le edges stops ready.positions.stops_room
 
     pub fronts-fit : projection_fits (node_lists ids (take edges starts) (take edges stops) (take (length ids) low') (take (length ids) low') (take (length ids) inverts') (take (length ids) compressible') (take (length ids) order))
         marks c (work_lists head next incoming firsts) ≡ true
     fronts-fit =
         fitting (node_lists ids (take edges starts) (take edges stops) (take (length ids) low') (take (length ids) low') (take (length ids) inverts') (take (length ids) compressible') (take (length ids) order)) marks c (work_lists head next incoming firsts) (record {
           pairs = edge-stops ∙ sym edge-starts;
-          lows = length-take-le (length ids) low' nodes-lent.low-room;
-          highs = length-take-le (length ids) low' nodes-lent.low-room;
-          flags = length-take-le (length ids) inverts' nodes-lent.inverts-room;
-          kinds = length-take-le (length ids) compressible' nodes-lent.compressible-room;
-          marked = ready.marks-room;
-          heads = omega (arith, ready.nodes-few, work.head-room);
-          counts = omega (arith, ready.nodes-few, work.incoming-room);
-          links = omega (arith, edge-starts, ready.edges_few, work.next-room);
-          firsts = omega (arith, edge-starts, ready.edges_few, work.firsts-room);
-          sources = omega (arith, edge-starts, ready.sources-room);
-          sinks = omega (arith, edge-starts, ready.sinks-room);
-          inverted = omega (arith, edge-starts, ready.inverted-room);
-          minimums = omega (arith, edge-starts, ready.minimums-room);
-          maximums = omega (arith, edge-starts, ready.maximums-room);
-          starts = omega (arith, edge-starts, ready.path-starts-room);
-          lengths = omega (arith, edge-starts, ready.path-lengths-room);
-          paths = omega (arith, edge-starts, ready.paths-room);
-          sources-below = ready.sources-below;
-          sinks-below = ready.sinks-below;
+          lows = length-take-le (length ids) low' nodes-lent.low_room;
+          highs = length-take-le (length ids) low' nodes-lent.low_room;
+          flags = length-take-le (length ids) inverts' nodes-lent.inverts_room;
+          kinds = length-take-le (length ids) compressible' nodes-lent.compressible_room;
+          marked = ready.marks_room;
+          heads = omega (arith, ready.nodes_few, work.head_room);
+          counts = omega (arith, ready.nodes_few, work.incoming_room);
+          links = omega (arith, edge-starts, ready.edges_few, work.next_room);
+          firsts = omega (arith, edge-starts, ready.edges_few, work.firsts_room);
+          sources = omega (arith, edge-starts, ready.sources_room);
+          sinks = omega (arith, edge-starts, ready.sinks_room);
+          inverted = omega (arith, edge-starts, ready.inverted_room);
+          minimums = omega (arith, edge-starts, ready.minimums_room);
+          maximums = omega (arith, edge-starts, ready.maximums_room);
+          starts = omega (arith, edge-starts, ready.path_starts_room);
+          lengths = omega (arith, edge-starts, ready.path_lengths_room);
+          paths = omega (arith, edge-starts, ready.paths_room);
+          sources_below = ready.sources_below;
+          sinks_below = ready.sinks_below;
           order_below = ready.order_below;
           rising = ready.rising;
         })

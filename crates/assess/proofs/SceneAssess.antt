@@ -22,7 +22,7 @@ use Rattle.rules.specs.declared.answers.SceneAnswer.{SceneAnswer}
 use Rattle.rules.specs.declared.answers.SceneAnswer.TheVariants as Answer
 use Rattle.rules.proofs.Acceptance.{AcceptedScene, accepted→}
 use Rattle.rules.proofs.Counts.{count-both}
-use Rattle.rules.proofs.Columns.{components-length}
+use Rattle.rules.proofs.Columns.{components_length}
 use Rattle.rules.proofs.Ordering.{ordered-below, ordered-length}
 use Rattle.rules.proofs.Shortest.{shortest-assess}
 use Rattle.laws.proofs.PositionEdges.{inside-sources, inside-sinks}
@@ -59,24 +59,24 @@ module _ (l : ComponentLists) (m : ConnectionLists) (old : AssessLists) where
   call-refused number place e = subst (λ c. AssessedBy c (scene_of l m) old old (Answer.Refused number place)) e (record {
     answered = refl;
     numbered = refl;
-    reason-kinds = refl;
-    reason-components = refl;
-    reason-blocks = refl;
-    reason-minimums = refl;
-    reason-maximums = refl;
-    feedback-ids = refl;
+    reason_kinds = refl;
+    reason_components = refl;
+    reason_blocks = refl;
+    reason_minimums = refl;
+    reason_maximums = refl;
+    feedback_ids = refl;
     marks = refl;
-    projected-sources = refl;
-    projected-sinks = refl;
-    projected-inverted = refl;
-    projected-minimums = refl;
-    projected-maximums = refl;
-    projected-starts = refl;
-    projected-lengths = refl;
-    path-ids = refl;
-    label-settled = refl;
-    label-lows = refl;
-    label-highs = refl;
+    projected_sources = refl;
+    projected_sinks = refl;
+    projected_inverted = refl;
+    projected_minimums = refl;
+    projected_maximums = refl;
+    projected_starts = refl;
+    projected_lengths = refl;
+    path_ids = refl;
+    label_settled = refl;
+    label_lows = refl;
+    label_highs = refl;
   })
 
   module _ (accepted : Accepted ≡ assess_checked scene_limits l m old) (order starts stops : List ℕ) (edges : ℕ) (room : IndexRoom order starts stops) (p : Positions l.ids m order starts stops edges) where
@@ -90,80 +90,80 @@ module _ (l : ComponentLists) (m : ConnectionLists) (old : AssessLists) where
 
     pub lent : PositionsLent (length l.ids) edges starts stops order
     lent = record {
-      starts-room = omega (arith, p.edges_few, scene.connections-few, room.starts-room);
-      stops-room = omega (arith, p.edges_few, scene.connections-few, room.stops-room);
-      order-room = omega (arith, scene.components-few, room.order-room);
+      starts_room = omega (arith, p.edges_few, scene.connections_few, room.starts_room);
+      stops_room = omega (arith, p.edges_few, scene.connections_few, room.stops_room);
+      order_room = omega (arith, scene.components_few, room.order_room);
     }
 
     starts-length : length (take edges starts) ≡ edges
-    starts-length = length-take-le edges starts lent.starts-room
+    starts-length = length-take-le edges starts lent.starts_room
 
     pairs : length (take edges stops) ≡ length (take edges starts)
-    pairs = length-take-le edges stops lent.stops-room ∙ sym starts-length
+    pairs = length-take-le edges stops lent.stops_room ∙ sym starts-length
 
-    sources-below : Below (length l.ids) (take edges starts)
-    sources-below = inside-sources (length l.ids) (take edges starts) (take edges stops) (sym pairs) p.positioned.inside
+    sources_below : Below (length l.ids) (take edges starts)
+    sources_below = inside-sources (length l.ids) (take edges starts) (take edges stops) (sym pairs) p.positioned.inside
 
-    sinks-below : Below (length l.ids) (take edges stops)
-    sinks-below = inside-sinks (length l.ids) (take edges starts) (take edges stops) (sym pairs) p.positioned.inside
+    sinks_below : Below (length l.ids) (take edges stops)
+    sinks_below = inside-sinks (length l.ids) (take edges starts) (take edges stops) (sym pairs) p.positioned.inside
 
     order_below : Below (length l.ids) (take (length l.ids) order)
     order_below = rw p.sorted (λ k h. ordered-below l.ids k (omega (arith, ordered-length l.ids)))
 
     pub assessable : Assessable l.ids l.kinds l.delays l.locked (take edges starts) (take edges stops) (take (length l.ids) order)
     assessable =
-        let a = scene.components-aligned in
+        let a = scene.components_aligned in
         record {
-          kinds-length = a.kinds-length;
-          delays-length = a.delays-length;
-          locked-length = a.locked-length;
-          linked = record { pairs = pairs; nodes-few = scene.components-few; edges_few = omega (arith, starts-length, p.edges_few, scene.connections-few); inside = p.positioned.inside };
-          order-few = omega (arith, length-take-le (length l.ids) order lent.order-room);
+          kinds_length = a.kinds_length;
+          delays_length = a.delays_length;
+          locked_length = a.locked_length;
+          linked = record { pairs = pairs; nodes_few = scene.components_few; edges_few = omega (arith, starts-length, p.edges_few, scene.connections_few); inside = p.positioned.inside };
+          order_few = omega (arith, length-take-le (length l.ids) order lent.order_room);
           positions = order_below;
         }
 
     pub output-room : OutputRoom (length l.ids) (columns old.reason_kinds old.reason_components old.reason_blocks old.reason_minimums old.reason_maximums) old.feedback_ids old.label_settled old.label_lows old.label_highs
     output-room =
-        let three = scene.outputs-long _ (Memᴰ.head refl) in
-        let eight = scene.outputs-long _ (Memᴰ.tail (Memᴰ.tail (Memᴰ.tail (Memᴰ.tail (Memᴰ.tail (Memᴰ.head refl)))))) in
+        let three = scene.outputs_long _ (Memᴰ.head refl) in
+        let eight = scene.outputs_long _ (Memᴰ.tail (Memᴰ.tail (Memᴰ.tail (Memᴰ.tail (Memᴰ.tail (Memᴰ.head refl)))))) in
         record {
-          reason-room = record {
-            kind-room = three _ (Memᴰ.head refl);
-            component-room = three _ (Memᴰ.tail (Memᴰ.head refl));
+          reason_room = record {
+            kind_room = three _ (Memᴰ.head refl);
+            component_room = three _ (Memᴰ.tail (Memᴰ.head refl));
             block_room = three _ (Memᴰ.tail (Memᴰ.tail (Memᴰ.head refl)));
-            minimum-room = three _ (Memᴰ.tail (Memᴰ.tail (Memᴰ.tail (Memᴰ.head refl))));
-            maximum-room = three _ (Memᴰ.tail (Memᴰ.tail (Memᴰ.tail (Memᴰ.tail (Memᴰ.head refl)))));
+            minimum_room = three _ (Memᴰ.tail (Memᴰ.tail (Memᴰ.tail (Memᴰ.head refl))));
+            maximum_room = three _ (Memᴰ.tail (Memᴰ.tail (Memᴰ.tail (Memᴰ.tail (Memᴰ.head refl)))));
           };
-          feedback-room = scene.outputs-long _ (Memᴰ.tail (Memᴰ.head refl)) _ (Memᴰ.head refl);
-          settled-room = eight _ (Memᴰ.head refl);
-          lows-room = eight _ (Memᴰ.tail (Memᴰ.head refl));
-          highs-room = eight _ (Memᴰ.tail (Memᴰ.tail (Memᴰ.head refl)));
+          feedback_room = scene.outputs_long _ (Memᴰ.tail (Memᴰ.head refl)) _ (Memᴰ.head refl);
+          settled_room = eight _ (Memᴰ.head refl);
+          lows_room = eight _ (Memᴰ.tail (Memᴰ.head refl));
+          highs_room = eight _ (Memᴰ.tail (Memᴰ.tail (Memᴰ.head refl)));
         }
 
     pub ready : ProjectionReady l.ids l.kinds l.delays starts stops edges order old.marks
         (projected_lists old.projected_sources old.projected_sinks old.projected_inverted old.projected_minimums old.projected_maximums old.projected_starts old.projected_lengths old.path_ids)
     ready =
-        let a = scene.components-aligned in
-        let six = scene.outputs-long _ (Memᴰ.tail (Memᴰ.tail (Memᴰ.tail (Memᴰ.head refl)))) in
+        let a = scene.components_aligned in
+        let six = scene.outputs_long _ (Memᴰ.tail (Memᴰ.tail (Memᴰ.tail (Memᴰ.head refl)))) in
         record {
-          kinds-length = a.kinds-length;
-          delays-length = a.delays-length;
-          nodes-few = scene.components-few;
-          edges_few = omega (arith, p.edges_few, scene.connections-few);
+          kinds_length = a.kinds_length;
+          delays_length = a.delays_length;
+          nodes_few = scene.components_few;
+          edges_few = omega (arith, p.edges_few, scene.connections_few);
           positions = lent;
-          sources-below = sources-below;
-          sinks-below = sinks-below;
+          sources_below = sources_below;
+          sinks_below = sinks_below;
           order_below = order_below;
-          rising = rw p.sorted (ids-rise l.ids scene.ids-distinct);
-          marks-room = scene.outputs-long _ (Memᴰ.tail (Memᴰ.tail (Memᴰ.head refl))) _ (Memᴰ.head refl);
-          sources-room = omega (arith, p.edges_few, six _ (Memᴰ.head refl));
-          sinks-room = omega (arith, p.edges_few, six _ (Memᴰ.tail (Memᴰ.head refl)));
-          inverted-room = omega (arith, p.edges_few, six _ (Memᴰ.tail (Memᴰ.tail (Memᴰ.head refl))));
-          minimums-room = omega (arith, p.edges_few, six _ (Memᴰ.tail (Memᴰ.tail (Memᴰ.tail (Memᴰ.head refl)))));
-          maximums-room = omega (arith, p.edges_few, six _ (Memᴰ.tail (Memᴰ.tail (Memᴰ.tail (Memᴰ.tail (Memᴰ.head refl))))));
-          path-starts-room = omega (arith, p.edges_few, six _ (Memᴰ.tail (Memᴰ.tail (Memᴰ.tail (Memᴰ.tail (Memᴰ.tail (Memᴰ.head refl)))))));
-          path-lengths-room = omega (arith, p.edges_few, six _ (Memᴰ.tail (Memᴰ.tail (Memᴰ.tail (Memᴰ.tail (Memᴰ.tail (Memᴰ.tail (Memᴰ.head refl))))))));
-          paths-room = omega (arith, p.edges_few, scene.outputs-long _ (Memᴰ.tail (Memᴰ.tail (Memᴰ.tail (Memᴰ.tail (Memᴰ.head refl))))) _ (Memᴰ.head refl));
+          rising = rw p.sorted (ids-rise l.ids scene.ids_distinct);
+          marks_room = scene.outputs_long _ (Memᴰ.tail (Memᴰ.tail (Memᴰ.head refl))) _ (Memᴰ.head refl);
+          sources_room = omega (arith, p.edges_few, six _ (Memᴰ.head refl));
+          sinks_room = omega (arith, p.edges_few, six _ (Memᴰ.tail (Memᴰ.head refl)));
+          inverted_room = omega (arith, p.edges_few, six _ (Memᴰ.tail (Memᴰ.tail (Memᴰ.head refl))));
+          minimums_room = omega (arith, p.edges_few, six _ (Memᴰ.tail (Memᴰ.tail (Memᴰ.tail (Memᴰ.head refl)))));
+          maximums_room = omega (arith, p.edges_few, six _ (Memᴰ.tail (Memᴰ.tail (Memᴰ.tail (Memᴰ.tail (Memᴰ.head refl))))));
+          path_starts_room = omega (arith, p.edges_few, six _ (Memᴰ.tail (Memᴰ.tail (Memᴰ.tail (Memᴰ.tail (Memᴰ.tail (Memᴰ.head refl)))))));
+          path_lengths_room = omega (arith, p.edges_few, six _ (Memᴰ.tail (Memᴰ.tail (Memᴰ.tail (Memᴰ.tail (Memᴰ.tail (Memᴰ.tail (Memᴰ.head refl))))))));
+          paths_room = omega (arith, p.edges_few, scene.outputs_long _ (Memᴰ.tail (Memᴰ.tail (Memᴰ.tail (Memᴰ.tail (Memᴰ.head refl))))) _ (Memᴰ.head refl));
         }
 
     abbrev es : List Edge
@@ -176,8 +176,8 @@ module _ (l : ComponentLists) (m : ConnectionLists) (old : AssessLists) where
     retained-few : (r : ℕ) → r ≡ retained_count (edges_between (take edges starts) (take edges stops)) (compressible_of l.kinds) (length l.ids) → (r ≤ length l.ids) × (length l.ids - r ≡ count (λ c. compressed (components_of l) (edges_of (connections_of m)) c.id) (components_of l))
     retained-few r e =
         let both = count-both (λ c. compressed (components_of l) es c.id) (components_of l) in
-        let kept = retained-by-ids l scene.ids-distinct scene.components-aligned.kinds-length es taken p.positioned in
-        (omega (arith, both, kept, components-length l), omega (arith, both, kept, components-length l))
+        let kept = retained-by-ids l scene.ids_distinct scene.components_aligned.kinds_length es taken p.positioned in
+        (omega (arith, both, kept, components_length l), omega (arith, both, kept, components_length l))
 
     -- the components that are not retained are compressed
     pub retained-bound : (new : AssessLists) (q : Projected)
@@ -194,8 +194,8 @@ module _ (l : ComponentLists) (m : ConnectionLists) (old : AssessLists) where
     call-assessed new r q found made =
         let S : List ℕ = take edges starts in
         let E : List ℕ = take edges stops in
-        let d = scene.ids-distinct in
-        let same = scene.components-aligned.kinds-length in
+        let d = scene.ids_distinct in
+        let same = scene.components_aligned.kinds_length in
         let f : ReasonsFound (component_lists l.ids l.kinds l.delays l.locked [] [] []) (take edges starts) (take edges stops) (ordered l.ids) (columns old.reason_kinds old.reason_components old.reason_blocks old.reason_minimums old.reason_maximums) old.feedback_ids old.label_settled old.label_lows old.label_highs (columns new.reason_kinds new.reason_components new.reason_blocks new.reason_minimums new.reason_maximums) new.feedback_ids new.label_settled new.label_lows new.label_highs r = rw p.sorted at found in
         let j : Projecting (node_lists l.ids (take edges starts) (take edges stops) (delays_of l.kinds l.delays) (delays_of l.kinds l.delays) (inverts_of l.kinds) (compressible_of l.kinds) (ordered l.ids)) old.marks new.marks (projected_lists old.projected_sources old.projected_sinks old.projected_inverted old.projected_minimums old.projected_maximums old.projected_starts old.projected_lengths old.path_ids) (projected_lists new.projected_sources new.projected_sinks new.projected_inverted new.projected_minimums new.projected_maximums new.projected_starts new.projected_lengths new.path_ids) q = rw p.sorted at made in
         let reasoned = reasons-by-ids l d es S E p.positioned in
@@ -203,36 +203,36 @@ module _ (l : ComponentLists) (m : ConnectionLists) (old : AssessLists) where
         let labelled = labels-by-ids l d es S E p.positioned in
         let marked = marks-by-ids l d same es taken p.positioned in
         let listed = entries-by-ids l d same es taken p.positioned in
-        let scoped = f.scope-told ∙ scope-by-ids l d es S E p.positioned in
-        let patterned = f.pattern-told ∙ pattern-by-ids l d es S E p.positioned in
+        let scoped = f.scope_told ∙ scope-by-ids l d es S E p.positioned in
+        let patterned = f.pattern_told ∙ pattern-by-ids l d es S E p.positioned in
         let kept = made.retained ∙ retained-by-ids l d same es taken p.positioned in
         let rest = (retained-few q.retained made.retained).1 in
-        let c3 = f.reasons-counted ∙ ap length reasoned in
-        let c4 = f.feedback-counted ∙ ap length fed in
+        let c3 = f.reasons_counted ∙ ap length reasoned in
+        let c4 = f.feedback_counted ∙ ap length fed in
         let c6 = j.projected ∙ ap length listed in
-        let c7 = j.path-ids ∙ ap (λ ps. length (path_ids ps)) listed in
+        let c7 = j.path_ids ∙ ap (λ ps. length (path_ids ps)) listed in
         let told : assessed_of (length l.ids) r q ≡ scene_answer Accepted (scene_of l m) = cc (scoped, patterned, kept, rest, c3, c4, c6, c7) in
         subst (λ c. AssessedBy c (scene_of l m) old new (assessed_of (length l.ids) r q)) accepted (record {
           answered = told;
           numbered = ap scene_numbers told;
-          reason-kinds = f.rows.kinds-written ∙ ap (λ rs. written old.reason_kinds (map reason_kind rs)) reasoned;
-          reason-components = f.rows.components-written ∙ ap (λ rs. written old.reason_components (map reason_component rs)) reasoned;
-          reason-blocks = f.rows.blocks-written ∙ ap (λ rs. written old.reason_blocks (map reason_block rs)) reasoned;
-          reason-minimums = f.rows.minimums-written ∙ ap (λ rs. written old.reason_minimums (map reason_minimum rs)) reasoned;
-          reason-maximums = f.rows.maximums-written ∙ ap (λ rs. written old.reason_maximums (map reason_maximum rs)) reasoned;
-          feedback-ids = f.feedback-ids ∙ ap (written old.feedback_ids) fed;
+          reason_kinds = f.rows.kinds_written ∙ ap (λ rs. written old.reason_kinds (map reason_kind rs)) reasoned;
+          reason_components = f.rows.components_written ∙ ap (λ rs. written old.reason_components (map reason_component rs)) reasoned;
+          reason_blocks = f.rows.blocks_written ∙ ap (λ rs. written old.reason_blocks (map reason_block rs)) reasoned;
+          reason_minimums = f.rows.minimums_written ∙ ap (λ rs. written old.reason_minimums (map reason_minimum rs)) reasoned;
+          reason_maximums = f.rows.maximums_written ∙ ap (λ rs. written old.reason_maximums (map reason_maximum rs)) reasoned;
+          feedback_ids = f.feedback_ids ∙ ap (written old.feedback_ids) fed;
           marks = j.marked ∙ ap (written old.marks) marked;
-          projected-sources = j.listed.sources ∙ ap (λ ps. written old.projected_sources (map (λ e. e.source) ps)) listed;
-          projected-sinks = j.listed.sinks ∙ ap (λ ps. written old.projected_sinks (map (λ e. e.sink) ps)) listed;
-          projected-inverted = j.listed.inverted ∙ ap (λ ps. written old.projected_inverted (map (λ e. e.inverted) ps)) listed;
-          projected-minimums = j.listed.minimums ∙ ap (λ ps. written old.projected_minimums (map (λ e. e.minimum) ps)) listed;
-          projected-maximums = j.listed.maximums ∙ ap (λ ps. written old.projected_maximums (map (λ e. e.maximum) ps)) listed;
-          projected-starts = j.listed.starts ∙ ap (λ ps. written old.projected_starts (path_starts ps)) listed;
-          projected-lengths = j.listed.lengths ∙ ap (λ ps. written old.projected_lengths (map path_length ps)) listed;
-          path-ids = j.listed.ids ∙ ap (λ ps. written old.path_ids (path_ids ps)) listed;
-          label-settled = f.label-settled ∙ ap (λ ls. written old.label_settled (map settled_flag ls)) labelled;
-          label-lows = f.label-lows ∙ ap (λ ls. written old.label_lows (map low_sum ls)) labelled;
-          label-highs = f.label-highs ∙ ap (λ ls. written old.label_highs (map high_sum ls)) labelled;
+          projected_sources = j.listed.sources ∙ ap (λ ps. written old.projected_sources (map (λ e. e.source) ps)) listed;
+          projected_sinks = j.listed.sinks ∙ ap (λ ps. written old.projected_sinks (map (λ e. e.sink) ps)) listed;
+          projected_inverted = j.listed.inverted ∙ ap (λ ps. written old.projected_inverted (map (λ e. e.inverted) ps)) listed;
+          projected_minimums = j.listed.minimums ∙ ap (λ ps. written old.projected_minimums (map (λ e. e.minimum) ps)) listed;
+          projected_maximums = j.listed.maximums ∙ ap (λ ps. written old.projected_maximums (map (λ e. e.maximum) ps)) listed;
+          projected_starts = j.listed.starts ∙ ap (λ ps. written old.projected_starts (path_starts ps)) listed;
+          projected_lengths = j.listed.lengths ∙ ap (λ ps. written old.projected_lengths (map path_length ps)) listed;
+          path_ids = j.listed.ids ∙ ap (λ ps. written old.path_ids (path_ids ps)) listed;
+          label_settled = f.label_settled ∙ ap (λ ls. written old.label_settled (map settled_flag ls)) labelled;
+          label_lows = f.label_lows ∙ ap (λ ls. written old.label_lows (map low_sum ls)) labelled;
+          label_highs = f.label_highs ∙ ap (λ ls. written old.label_highs (map high_sum ls)) labelled;
         })
 
     pub call-answered : (new : AssessLists) (r : ReasonsAssessed) (q : Projected) (answer : SceneAnswer)

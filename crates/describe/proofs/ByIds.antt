@@ -45,13 +45,13 @@ module _ (l : ComponentLists) (m : ConnectionLists) (starts stops : List ℕ) (d
       let r = mem-at 0 k in
       omega (arith, inside-sources (length l.ids) starts stops (sym pairs) at.inside r.0 r.1, r.2)
 
-  pub edge-sources : map (key_at l.ids) starts ≡ map (λ e. e.source) (timed_edges (components_of l) (connections_of m))
+  pub edge_sources : map (key_at l.ids) starts ≡ map (λ e. e.source) (timed_edges (components_of l) (connections_of m))
   unfolding timed_edges timed_edge
-  edge-sources = sym (map-map (λ e. e.source) (timed_edge (delay_at (components_of l)) (delay_at (components_of l)) (components_of l)) edge_connections ∙ by-source (λ x. x))
+  edge_sources = sym (map-map (λ e. e.source) (timed_edge (delay_at (components_of l)) (delay_at (components_of l)) (components_of l)) edge_connections ∙ by-source (λ x. x))
 
-  pub edge-sinks : map (key_at l.ids) stops ≡ map (λ e. e.sink) (timed_edges (components_of l) (connections_of m))
+  pub edge_sinks : map (key_at l.ids) stops ≡ map (λ e. e.sink) (timed_edges (components_of l) (connections_of m))
   unfolding timed_edges timed_edge
-  edge-sinks =
+  edge_sinks =
       sym (map-map (λ e. e.sink) (timed_edge (delay_at (components_of l)) (delay_at (components_of l)) (components_of l)) edge_connections
       ∙ by_end sink_of stops (edges_between-sinks starts stops (sym pairs)) (λ e. refl) (λ x. x))
 
@@ -59,17 +59,17 @@ module _ (l : ComponentLists) (m : ConnectionLists) (starts stops : List ℕ) (d
   unfolding component_at delay_of
   delays = by-source (delay_at (components_of l)) ∙ map_same _ _ starts (λ i k. delay-by-position l distinct i (inside i k))
 
-  pub edge-minimums : map (delay_at_position l.kinds l.delays) starts ≡ map (λ e. e.minimum) (timed_edges (components_of l) (connections_of m))
+  pub edge_minimums : map (delay_at_position l.kinds l.delays) starts ≡ map (λ e. e.minimum) (timed_edges (components_of l) (connections_of m))
   unfolding timed_edges timed_edge
-  edge-minimums = sym (map-map (λ e. e.minimum) (timed_edge (delay_at (components_of l)) (delay_at (components_of l)) (components_of l)) edge_connections ∙ delays)
+  edge_minimums = sym (map-map (λ e. e.minimum) (timed_edge (delay_at (components_of l)) (delay_at (components_of l)) (components_of l)) edge_connections ∙ delays)
 
-  pub edge-maximums : map (delay_at_position l.kinds l.delays) starts ≡ map (λ e. e.maximum) (timed_edges (components_of l) (connections_of m))
+  pub edge_maximums : map (delay_at_position l.kinds l.delays) starts ≡ map (λ e. e.maximum) (timed_edges (components_of l) (connections_of m))
   unfolding timed_edges timed_edge
-  edge-maximums = sym (map-map (λ e. e.maximum) (timed_edge (delay_at (components_of l)) (delay_at (components_of l)) (components_of l)) edge_connections ∙ delays)
+  edge_maximums = sym (map-map (λ e. e.maximum) (timed_edge (delay_at (components_of l)) (delay_at (components_of l)) (components_of l)) edge_connections ∙ delays)
 
-  pub edge-behaviors : map (behavior_at_position l.kinds) starts ≡ map (λ e. e.behavior) (timed_edges (components_of l) (connections_of m))
+  pub edge_behaviors : map (behavior_at_position l.kinds) starts ≡ map (λ e. e.behavior) (timed_edges (components_of l) (connections_of m))
   unfolding timed_edges timed_edge component_at row_of
-  edge-behaviors =
+  edge_behaviors =
       sym (map-map (λ e. e.behavior) (timed_edge (delay_at (components_of l)) (delay_at (components_of l)) (components_of l)) edge_connections
       ∙ by-source (λ v. behavior_code (row_at (components_of l) v).behavior)
       ∙ map_same _ _ starts (λ i k. ap (λ r. behavior_code r.behavior) (row-by-position l distinct i (inside i k))))
@@ -100,21 +100,21 @@ module _ (l : ComponentLists) where
     by-source-list : (g : ℕ → ℕ) → map (λ n. g n.source) (connections_of m) ≡ map g m.sources
     by-source-list g = sym (map-map g (λ n. n.source) (connections_of m)) ∙ ap (map g) (connection-sources m)
 
-    pub evidence-kinds : map (λ (x : ℕ). 0) m.sources ++ map (λ (i : ℕ). 1) (device_positions l.kinds (length l.ids)) ≡ map evidence_kind (evidence (components_of l) (connections_of m))
-    evidence-kinds = sym (by-evidence evidence_kind ∙ ap (λ r. r ++ map (λ (i : ℕ). 1) chosen) (by-source-list (λ x. 0)))
+    pub evidence_kinds : map (λ (x : ℕ). 0) m.sources ++ map (λ (i : ℕ). 1) (device_positions l.kinds (length l.ids)) ≡ map evidence_kind (evidence (components_of l) (connections_of m))
+    evidence_kinds = sym (by-evidence evidence_kind ∙ ap (λ r. r ++ map (λ (i : ℕ). 1) chosen) (by-source-list (λ x. 0)))
 
-    pub evidence-sources : map (λ (x : ℕ). x) m.sources ++ map (λ (i : ℕ). 0) (device_positions l.kinds (length l.ids)) ≡ map evidence_source (evidence (components_of l) (connections_of m))
-    evidence-sources = sym (by-evidence evidence_source ∙ ap (λ r. r ++ map (λ (i : ℕ). 0) chosen) (by-source-list (λ x. x)))
+    pub evidence_sources : map (λ (x : ℕ). x) m.sources ++ map (λ (i : ℕ). 0) (device_positions l.kinds (length l.ids)) ≡ map evidence_source (evidence (components_of l) (connections_of m))
+    evidence_sources = sym (by-evidence evidence_source ∙ ap (λ r. r ++ map (λ (i : ℕ). 0) chosen) (by-source-list (λ x. x)))
 
-    pub evidence-sinks : ConnectionsAligned m → map (λ (x : ℕ). x) m.sinks ++ map (λ (i : ℕ). 0) (device_positions l.kinds (length l.ids)) ≡ map evidence_sink (evidence (components_of l) (connections_of m))
-    evidence-sinks a =
+    pub evidence_sinks : ConnectionsAligned m → map (λ (x : ℕ). x) m.sinks ++ map (λ (i : ℕ). 0) (device_positions l.kinds (length l.ids)) ≡ map evidence_sink (evidence (components_of l) (connections_of m))
+    evidence_sinks a =
         sym (by-evidence evidence_sink
-        ∙ ap (λ r. r ++ map (λ (i : ℕ). 0) chosen) (sym (map-map (λ x. x) (λ n. n.sink) (connections_of m)) ∙ ap (map (λ x. x)) (connection-columns m a).sinks-column))
+        ∙ ap (λ r. r ++ map (λ (i : ℕ). 0) chosen) (sym (map-map (λ x. x) (λ n. n.sink) (connections_of m)) ∙ ap (map (λ x. x)) (connection-columns m a).sinks_column))
 
-    pub evidence-components : map (λ (x : ℕ). 0) m.sources ++ map (key_at l.ids) (device_positions l.kinds (length l.ids)) ≡ map evidence_component (evidence (components_of l) (connections_of m))
+    pub evidence_components : map (λ (x : ℕ). 0) m.sources ++ map (key_at l.ids) (device_positions l.kinds (length l.ids)) ≡ map evidence_component (evidence (components_of l) (connections_of m))
     unfolding component_at
-    evidence-components = sym (by-evidence evidence_component ∙ ap (λ r. r ++ map (key_at l.ids) chosen) (by-source-list (λ x. 0)))
+    evidence_components = sym (by-evidence evidence_component ∙ ap (λ r. r ++ map (key_at l.ids) chosen) (by-source-list (λ x. 0)))
 
-    pub evidence-blocks : map (λ (x : ℕ). 0) m.sources ++ map (key_at l.kinds) (device_positions l.kinds (length l.ids)) ≡ map evidence_block (evidence (components_of l) (connections_of m))
+    pub evidence_blocks : map (λ (x : ℕ). 0) m.sources ++ map (key_at l.kinds) (device_positions l.kinds (length l.ids)) ≡ map evidence_block (evidence (components_of l) (connections_of m))
     unfolding component_at
-    evidence-blocks = sym (by-evidence evidence_block ∙ ap (λ r. r ++ map (key_at l.kinds) chosen) (by-source-list (λ x. 0)))
+    evidence_blocks = sym (by-evidence evidence_block ∙ ap (λ r. r ++ map (key_at l.kinds) chosen) (by-source-list (λ x. 0)))

@@ -64,8 +64,8 @@ module _ (ids kinds old last : List ℕ) (r : ℕ) (same : length kinds ≡ leng
   pub chosen-length : r ≡ length (take r last)
   chosen-length = chosen-count ∙ ap length (sym chosen_is)
 
-  pub chosen-below : Below (length ids) (take r last) × (length (take r last) ≤ length ids)
-  chosen-below = rw chosen_is (devices-below kinds (length ids), devices-few kinds (length ids))
+  pub chosen_below : Below (length ids) (take r last) × (length (take r last) ≤ length ids)
+  chosen_below = rw chosen_is (devices-below kinds (length ids), devices-few kinds (length ids))
 
 pub listed-for : {ids kinds delays : List ℕ} {xs ys zs : List ℤ} {sources sinks p q : List ℕ} {dc : List ℕ} {dx dy dz : List ℤ} {ds dd ek es et ec eb : List ℕ} {dc' : List ℕ} {dx' dy' dz' : List ℤ} {ds' dd' ek' es' et' ec' eb' : List ℕ}
     → p ≡ q → ComponentsListed ids kinds delays xs ys zs sources sinks p dc dx dy dz ds dd ek es et ec eb dc' dx' dy' dz' ds' dd' ek' es' et' ec' eb'

@@ -12,11 +12,11 @@ use Rattle.describe.specs.Rows.{EvidenceFits}
 pub fits_kept : {n k : ℕ} {a b c d e a' b' c' d' e' : List ℕ} → EvidenceFits n a b c d e → k ≤ n → length a' ≡ length a → length b' ≡ length b → length c' ≡ length c → length d' ≡ length d
     → length e' ≡ length e → EvidenceFits k a' b' c' d' e'
 fits_kept f h p q r s t = record {
-  kinds-room = omega (arith, f.kinds-room);
-  sources-room = omega (arith, f.sources-room);
-  sinks-room = omega (arith, f.sinks-room);
-  components-room = omega (arith, f.components-room);
-  blocks-room = omega (arith, f.blocks-room);
+  kinds_room = omega (arith, f.kinds_room);
+  sources_room = omega (arith, f.sources_room);
+  sinks_room = omega (arith, f.sinks_room);
+  components_room = omega (arith, f.components_room);
+  blocks_room = omega (arith, f.blocks_room);
 }
 
 -- what is written after the entries of a list

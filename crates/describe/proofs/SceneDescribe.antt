@@ -24,7 +24,7 @@ use Rattle.scene.proofs.PositionSteps.{room_fits}
 use Rattle.describe.specs.Rows.{delay_at_position, behavior_at_position, device_positions, EdgeRoom}
 use Rattle.describe.specs.Components.{ComponentRoom, ComponentsListed}
 use Rattle.describe.proofs.ChosenSteps.{devices-few}
-use Rattle.describe.proofs.ByIds.{edge-sources, edge-sinks, edge-minimums, edge-maximums, edge-behaviors, by-list, evidence-kinds, evidence-sources, evidence-sinks, evidence-components, evidence-blocks}
+use Rattle.describe.proofs.ByIds.{edge_sources, edge_sinks, edge_minimums, edge_maximums, edge_behaviors, by-list, evidence_kinds, evidence_sources, evidence_sinks, evidence_components, evidence_blocks}
 
 -- the scene tested by the shortest lengths
 pub tested : (l : ComponentLists) (m : ConnectionLists) (l0 l1 l2 : List ℕ) (order starts stops order' starts' stops' : List ℕ) (room : Bool) (checked : Checked) (edges r0 r1 r2 : ℕ)
@@ -40,22 +40,22 @@ module _ (l : ComponentLists) (m : ConnectionLists) (old : DescribeLists) where
   call-refused number place e = subst (λ c. DescribedBy c (scene_of l m) old old (Answer.Refused number place)) e (record {
     answered = refl;
     numbered = refl;
-    edge-sources = refl;
-    edge-sinks = refl;
-    edge-minimums = refl;
-    edge-maximums = refl;
-    edge-behaviors = refl;
-    device-components = refl;
-    device-xs = refl;
-    device-ys = refl;
-    device-zs = refl;
-    device-semantics = refl;
-    device-delays = refl;
-    evidence-kinds = refl;
-    evidence-sources = refl;
-    evidence-sinks = refl;
-    evidence-components = refl;
-    evidence-blocks = refl;
+    edge_sources = refl;
+    edge_sinks = refl;
+    edge_minimums = refl;
+    edge_maximums = refl;
+    edge_behaviors = refl;
+    device_components = refl;
+    device_xs = refl;
+    device_ys = refl;
+    device_zs = refl;
+    device_semantics = refl;
+    device_delays = refl;
+    evidence_kinds = refl;
+    evidence_sources = refl;
+    evidence_sinks = refl;
+    evidence_components = refl;
+    evidence_blocks = refl;
   })
 
   module _ (accepted : Accepted ≡ describe_checked scene_limits l m old) (order starts stops : List ℕ) (edges : ℕ) (room : IndexRoom order starts stops) (p : Positions l.ids m order starts stops edges) where
@@ -67,66 +67,66 @@ module _ (l : ComponentLists) (m : ConnectionLists) (old : DescribeLists) where
     scene = accepted→ scene_limits l m _ (sym accepted)
 
     pub starts_fit : edges ≤ length starts
-    starts_fit = omega (arith, p.edges_few, scene.connections-few, room.starts-room)
+    starts_fit = omega (arith, p.edges_few, scene.connections_few, room.starts_room)
 
-    pub stops-fit : edges ≤ length stops
-    stops-fit = omega (arith, p.edges_few, scene.connections-few, room.stops-room)
+    pub stops_fit : edges ≤ length stops
+    stops_fit = omega (arith, p.edges_few, scene.connections_few, room.stops_room)
 
     pub starts-length : edges ≡ length (take edges starts)
     starts-length = sym (length-take-le edges starts starts_fit)
 
     pub stops-length : edges ≡ length (take edges stops)
-    stops-length = sym (length-take-le edges stops stops-fit)
+    stops-length = sym (length-take-le edges stops stops_fit)
 
     pairs : length (take edges stops) ≡ length (take edges starts)
     pairs = sym stops-length ∙ starts-length
 
-    pub components-few : length l.ids ≤ scene_limits.components
-    components-few = scene.components-few
+    pub components_few : length l.ids ≤ scene_limits.components
+    components_few = scene.components_few
 
     pub edges_room : EdgeRoom l.ids l.kinds l.delays (take edges starts) (take edges stops) old.edge_sources old.edge_sinks old.edge_minimums old.edge_maximums old.edge_behaviors
     edges_room =
-        let a = scene.components-aligned in
-        let long = scene.outputs-long _ (Memᴰ.head refl) in
+        let a = scene.components_aligned in
+        let long = scene.outputs_long _ (Memᴰ.head refl) in
         record {
-          kinds-length = a.kinds-length;
-          delays-length = a.delays-length;
+          kinds_length = a.kinds_length;
+          delays_length = a.delays_length;
           rows = record {
             pairs = pairs;
-            starts-below = inside-sources (length l.ids) (take edges starts) (take edges stops) (sym pairs) p.positioned.inside;
-            stops-below = inside-sinks (length l.ids) (take edges starts) (take edges stops) (sym pairs) p.positioned.inside;
-            sources-room = omega (arith, starts-length, p.edges_few, long _ (Memᴰ.head refl));
-            sinks-room = omega (arith, starts-length, p.edges_few, long _ (Memᴰ.tail (Memᴰ.head refl)));
-            minimums-room = omega (arith, starts-length, p.edges_few, long _ (Memᴰ.tail (Memᴰ.tail (Memᴰ.head refl))));
-            maximums-room = omega (arith, starts-length, p.edges_few, long _ (Memᴰ.tail (Memᴰ.tail (Memᴰ.tail (Memᴰ.head refl)))));
-            behaviors-room = omega (arith, starts-length, p.edges_few, long _ (Memᴰ.tail (Memᴰ.tail (Memᴰ.tail (Memᴰ.tail (Memᴰ.head refl))))));
+            starts_below = inside-sources (length l.ids) (take edges starts) (take edges stops) (sym pairs) p.positioned.inside;
+            stops_below = inside-sinks (length l.ids) (take edges starts) (take edges stops) (sym pairs) p.positioned.inside;
+            sources_room = omega (arith, starts-length, p.edges_few, long _ (Memᴰ.head refl));
+            sinks_room = omega (arith, starts-length, p.edges_few, long _ (Memᴰ.tail (Memᴰ.head refl)));
+            minimums_room = omega (arith, starts-length, p.edges_few, long _ (Memᴰ.tail (Memᴰ.tail (Memᴰ.head refl))));
+            maximums_room = omega (arith, starts-length, p.edges_few, long _ (Memᴰ.tail (Memᴰ.tail (Memᴰ.tail (Memᴰ.head refl)))));
+            behaviors_room = omega (arith, starts-length, p.edges_few, long _ (Memᴰ.tail (Memᴰ.tail (Memᴰ.tail (Memᴰ.tail (Memᴰ.head refl))))));
           };
         }
 
-    pub components-room : ComponentRoom l.ids l.kinds l.delays l.xs l.ys l.zs m.sources m.sinks old.device_components old.device_xs old.device_ys old.device_zs old.device_semantics old.device_delays old.evidence_kinds old.evidence_sources old.evidence_sinks old.evidence_components old.evidence_blocks
-    components-room =
-        let a = scene.components-aligned in
-        let one = scene.outputs-long _ (Memᴰ.tail (Memᴰ.head refl)) in
-        let two = scene.outputs-long _ (Memᴰ.tail (Memᴰ.tail (Memᴰ.head refl))) in
+    pub components_room : ComponentRoom l.ids l.kinds l.delays l.xs l.ys l.zs m.sources m.sinks old.device_components old.device_xs old.device_ys old.device_zs old.device_semantics old.device_delays old.evidence_kinds old.evidence_sources old.evidence_sinks old.evidence_components old.evidence_blocks
+    components_room =
+        let a = scene.components_aligned in
+        let one = scene.outputs_long _ (Memᴰ.tail (Memᴰ.head refl)) in
+        let two = scene.outputs_long _ (Memᴰ.tail (Memᴰ.tail (Memᴰ.head refl))) in
         record {
-          kinds-length = a.kinds-length;
-          delays-length = a.delays-length;
-          xs-length = a.xs-length;
-          ys-length = a.ys-length;
-          zs-length = a.zs-length;
-          sinks-length = scene.connections-aligned.sinks-length;
-          components-room = one _ (Memᴰ.head refl);
-          xs-room = one _ (Memᴰ.tail (Memᴰ.head refl));
-          ys-room = one _ (Memᴰ.tail (Memᴰ.tail (Memᴰ.head refl)));
-          zs-room = one _ (Memᴰ.tail (Memᴰ.tail (Memᴰ.tail (Memᴰ.head refl))));
-          semantics-room = one _ (Memᴰ.tail (Memᴰ.tail (Memᴰ.tail (Memᴰ.tail (Memᴰ.head refl)))));
-          delays-room = one _ (Memᴰ.tail (Memᴰ.tail (Memᴰ.tail (Memᴰ.tail (Memᴰ.tail (Memᴰ.head refl))))));
-          evidence-room = record {
-            kinds-room = two _ (Memᴰ.head refl);
-            sources-room = two _ (Memᴰ.tail (Memᴰ.head refl));
-            sinks-room = two _ (Memᴰ.tail (Memᴰ.tail (Memᴰ.head refl)));
-            components-room = two _ (Memᴰ.tail (Memᴰ.tail (Memᴰ.tail (Memᴰ.head refl))));
-            blocks-room = two _ (Memᴰ.tail (Memᴰ.tail (Memᴰ.tail (Memᴰ.tail (Memᴰ.head refl)))));
+          kinds_length = a.kinds_length;
+          delays_length = a.delays_length;
+          xs_length = a.xs_length;
+          ys_length = a.ys_length;
+          zs_length = a.zs_length;
+          sinks_length = scene.connections_aligned.sinks_length;
+          components_room = one _ (Memᴰ.head refl);
+          xs_room = one _ (Memᴰ.tail (Memᴰ.head refl));
+          ys_room = one _ (Memᴰ.tail (Memᴰ.tail (Memᴰ.head refl)));
+          zs_room = one _ (Memᴰ.tail (Memᴰ.tail (Memᴰ.tail (Memᴰ.head refl))));
+          semantics_room = one _ (Memᴰ.tail (Memᴰ.tail (Memᴰ.tail (Memᴰ.tail (Memᴰ.head refl)))));
+          delays_room = one _ (Memᴰ.tail (Memᴰ.tail (Memᴰ.tail (Memᴰ.tail (Memᴰ.tail (Memᴰ.head refl))))));
+          evidence_room = record {
+            kinds_room = two _ (Memᴰ.head refl);
+            sources_room = two _ (Memᴰ.tail (Memᴰ.head refl));
+            sinks_room = two _ (Memᴰ.tail (Memᴰ.tail (Memᴰ.head refl)));
+            components_room = two _ (Memᴰ.tail (Memᴰ.tail (Memᴰ.tail (Memᴰ.head refl))));
+            blocks_room = two _ (Memᴰ.tail (Memᴰ.tail (Memᴰ.tail (Memᴰ.tail (Memᴰ.head refl)))));
           };
         }
 
@@ -136,7 +136,7 @@ module _ (l : ComponentLists) (m : ConnectionLists) (old : DescribeLists) where
     edge_count : edges ≡ length (timed_edges (components_of l) (connections_of m))
     edge_count =
         starts-length ∙ sym (length-map (take edges starts) (key_at l.ids))
-        ∙ ap length (edge-sources l m (take edges starts) (take edges stops) scene.ids-distinct pairs p.positioned)
+        ∙ ap length (edge_sources l m (take edges starts) (take edges stops) scene.ids_distinct pairs p.positioned)
         ∙ length-map (timed_edges (components_of l) (connections_of m)) (λ e. e.source)
 
     device-count : length (device_positions l.kinds (length l.ids)) ≡ length (devices (components_of l))
@@ -149,10 +149,10 @@ module _ (l : ComponentLists) (m : ConnectionLists) (old : DescribeLists) where
         let la : length a ≡ length m.sources = length-map m.sources (λ (x : ℕ). 0) in
         let lb : length b ≡ length chosen = length-map chosen (λ (i : ℕ). 1) in
         let n : length m.sources + length chosen ≡ length (a ++ b) = omega (arith, length-append a b, la, lb) in
-        n ∙ ap length (evidence-kinds l m) ∙ length-map (evidence (components_of l) (connections_of m)) evidence_kind
+        n ∙ ap length (evidence_kinds l m) ∙ length-map (evidence (components_of l) (connections_of m)) evidence_kind
 
     pub evidence-few : (devices : ℕ) → devices ≡ length (device_positions l.kinds (length l.ids)) → length m.sources + devices ≤ 2560
-    evidence-few devices e = omega (arith, devices-few l.kinds (length l.ids), scene.components-few, scene.connections-few)
+    evidence-few devices e = omega (arith, devices-few l.kinds (length l.ids), scene.components_few, scene.connections_few)
 
     -- what the passes write are the lists of the call
     pub call-described : (new : DescribeLists) (devices : ℕ)
@@ -170,27 +170,27 @@ module _ (l : ComponentLists) (m : ConnectionLists) (old : DescribeLists) where
     call-described new devices e1 e2 e3 e4 e5 c n =
         let S : List ℕ = take edges starts in
         let T : List ℕ = take edges stops in
-        let d = scene.ids-distinct in
+        let d = scene.ids_distinct in
         let v = c.evidence in
         let total : length m.sources + devices ≡ length (evidence (components_of l) (connections_of m)) = omega (arith, evidence-count) in
         let told : Answer.Described edges devices (length m.sources + devices) ≡ description Accepted (scene_of l m) = cc (edge_count, n ∙ device-count, total) in
         subst (λ r. DescribedBy r (scene_of l m) old new (Answer.Described edges devices (length m.sources + devices))) accepted (record {
           answered = told;
           numbered = ap description_numbers told;
-          edge-sources = e1 ∙ ap (written old.edge_sources) (edge-sources l m S T d pairs p.positioned);
-          edge-sinks = e2 ∙ ap (written old.edge_sinks) (edge-sinks l m S T d pairs p.positioned);
-          edge-minimums = e3 ∙ ap (written old.edge_minimums) (edge-minimums l m S T d pairs p.positioned);
-          edge-maximums = e4 ∙ ap (written old.edge_maximums) (edge-maximums l m S T d pairs p.positioned);
-          edge-behaviors = e5 ∙ ap (written old.edge_behaviors) (edge-behaviors l m S T d pairs p.positioned);
-          device-components = c.device-components ∙ ap (written old.device_components) (by-list l (λ x. x.component));
-          device-xs = c.device-xs ∙ ap (written old.device_xs) (by-list l (λ x. x.x));
-          device-ys = c.device-ys ∙ ap (written old.device_ys) (by-list l (λ x. x.y));
-          device-zs = c.device-zs ∙ ap (written old.device_zs) (by-list l (λ x. x.z));
-          device-semantics = c.device-semantics ∙ ap (written old.device_semantics) (by-list l (λ x. x.semantics));
-          device-delays = c.device-delays ∙ ap (written old.device_delays) (by-list l (λ x. x.minimum_delay));
-          evidence-kinds = v.kinds-listed ∙ ap (written old.evidence_kinds) (evidence-kinds l m);
-          evidence-sources = v.sources-listed ∙ ap (written old.evidence_sources) (evidence-sources l m);
-          evidence-sinks = v.sinks-listed ∙ ap (written old.evidence_sinks) (evidence-sinks l m scene.connections-aligned);
-          evidence-components = v.components-listed ∙ ap (written old.evidence_components) (evidence-components l m);
-          evidence-blocks = v.blocks-listed ∙ ap (written old.evidence_blocks) (evidence-blocks l m);
+          edge_sources = e1 ∙ ap (written old.edge_sources) (edge_sources l m S T d pairs p.positioned);
+          edge_sinks = e2 ∙ ap (written old.edge_sinks) (edge_sinks l m S T d pairs p.positioned);
+          edge_minimums = e3 ∙ ap (written old.edge_minimums) (edge_minimums l m S T d pairs p.positioned);
+          edge_maximums = e4 ∙ ap (written old.edge_maximums) (edge_maximums l m S T d pairs p.positioned);
+          edge_behaviors = e5 ∙ ap (written old.edge_behaviors) (edge_behaviors l m S T d pairs p.positioned);
+          device_components = c.device_components ∙ ap (written old.device_components) (by-list l (λ x. x.component));
+          device_xs = c.device_xs ∙ ap (written old.device_xs) (by-list l (λ x. x.x));
+          device_ys = c.device_ys ∙ ap (written old.device_ys) (by-list l (λ x. x.y));
+          device_zs = c.device_zs ∙ ap (written old.device_zs) (by-list l (λ x. x.z));
+          device_semantics = c.device_semantics ∙ ap (written old.device_semantics) (by-list l (λ x. x.semantics));
+          device_delays = c.device_delays ∙ ap (written old.device_delays) (by-list l (λ x. x.minimum_delay));
+          evidence_kinds = v.kinds_listed ∙ ap (written old.evidence_kinds) (evidence_kinds l m);
+          evidence_sources = v.sources_listed ∙ ap (written old.evidence_sources) (evidence_sources l m);
+          evidence_sinks = v.sinks_listed ∙ ap (written old.evidence_sinks) (evidence_sinks l m scene.connections_aligned);
+          evidence_components = v.components_listed ∙ ap (written old.evidence_components) (evidence_components l m);
+          evidence_blocks = v.blocks_listed ∙ ap (written old.evidence_blocks) (evidence_blocks l m);
         })

@@ -50,9 +50,9 @@ module _ (es : List BehaviorEvent) (n : ℕ) (a b c : List ℕ) where
     pub ticks : List ℕ
     pub components : List ℕ
     pub powered : List ℕ
-    pub ticks-made : Made (λ k. (get_or es k none).tick) 0 a ticks i
-    pub components-made : Made (λ k. (get_or es k none).component) 0 b components i
-    pub powered-made : Made (λ k. (get_or es k none).powered) 0 c powered i
+    pub ticks_made : Made (λ k. (get_or es k none).tick) 0 a ticks i
+    pub components_made : Made (λ k. (get_or es k none).component) 0 b components i
+    pub powered_made : Made (λ k. (get_or es k none).powered) 0 c powered i
 
   abbrev pub start : Upto
   start = record {
@@ -61,9 +61,9 @@ module _ (es : List BehaviorEvent) (n : ℕ) (a b c : List ℕ) where
     ticks = a;
     components = b;
     powered = c;
-    ticks-made = made_none (λ k. (get_or es k none).tick) 0 a;
-    components-made = made_none (λ k. (get_or es k none).component) 0 b;
-    powered-made = made_none (λ k. (get_or es k none).powered) 0 c;
+    ticks_made = made_none (λ k. (get_or es k none).tick) 0 a;
+    components_made = made_none (λ k. (get_or es k none).component) 0 b;
+    powered_made = made_none (λ k. (get_or es k none).powered) 0 c;
   }
 
   module _ (in-a : n ≤ length a) (in_b : n ≤ length b) (in_c : n ≤ length c) where
@@ -75,9 +75,9 @@ module _ (es : List BehaviorEvent) (n : ℕ) (a b c : List ℕ) where
       ticks = set u.ticks u.i (get_or es u.i none).tick;
       components = set u.components u.i (get_or es u.i none).component;
       powered = set u.powered u.i (get_or es u.i none).powered;
-      ticks-made = made_more (λ k. (get_or es k none).tick) 0 a u.i u.i u.ticks _ (omega arith) (omega (arith, in-a, l)) refl u.ticks-made;
-      components-made = made_more (λ k. (get_or es k none).component) 0 b u.i u.i u.components _ (omega arith) (omega (arith, in_b, l)) refl u.components-made;
-      powered-made = made_more (λ k. (get_or es k none).powered) 0 c u.i u.i u.powered _ (omega arith) (omega (arith, in_c, l)) refl u.powered-made;
+      ticks_made = made_more (λ k. (get_or es k none).tick) 0 a u.i u.i u.ticks _ (omega arith) (omega (arith, in-a, l)) refl u.ticks_made;
+      components_made = made_more (λ k. (get_or es k none).component) 0 b u.i u.i u.components _ (omega arith) (omega (arith, in_b, l)) refl u.components_made;
+      powered_made = made_more (λ k. (get_or es k none).powered) 0 c u.i u.i u.powered _ (omega arith) (omega (arith, in_c, l)) refl u.powered_made;
     }
 
   -- what the lists hold once all are read
@@ -89,8 +89,8 @@ module _ (es : List BehaviorEvent) (n : ℕ) (a b c : List ℕ) where
 
   pub all_read : (u : Upto) → u.i ≡ fitted (length es) → Counted (taken u) (events_of_records es)
   all_read u e = record {
-    sized = record { ticks-length = length-map es (λ d. d.tick); components-length = length-map es (λ d. d.component); powered-length = length-map es (λ d. d.powered) };
-    ticks-first = λ h. front (λ d. d.tick) a u.ticks u.i (e ∙ fitted-all (length es) h) u.ticks-made;
-    components-first = λ h. front (λ d. d.component) b u.components u.i (e ∙ fitted-all (length es) h) u.components-made;
-    powered-first = λ h. front (λ d. d.powered) c u.powered u.i (e ∙ fitted-all (length es) h) u.powered-made;
+    sized = record { ticks_length = length-map es (λ d. d.tick); components_length = length-map es (λ d. d.component); powered_length = length-map es (λ d. d.powered) };
+    ticks_first = λ h. front (λ d. d.tick) a u.ticks u.i (e ∙ fitted-all (length es) h) u.ticks_made;
+    components_first = λ h. front (λ d. d.component) b u.components u.i (e ∙ fitted-all (length es) h) u.components_made;
+    powered_first = λ h. front (λ d. d.powered) c u.powered u.i (e ∙ fitted-all (length es) h) u.powered_made;
   }

@@ -27,7 +27,7 @@ refused-call t old number place e = refused-assessed old (sym e)
 module _ (count unit : ℕ) (l : EventLists) (contracts : ContractLists) (old : FindingLists) (s : Sized count l) where
   aligned : T (lengths_differ (event_lengths l)) → ⊥
   unfolding event_lengths
-  aligned = same-all (length l.ticks) (length l.components ∷ length l.powered ∷ []) (s.components-length ∙ sym s.ticks-length, (s.powered-length ∙ sym s.ticks-length, tt))
+  aligned = same-all (length l.ticks) (length l.components ∷ length l.powered ∷ []) (s.components_length ∙ sym s.ticks_length, (s.powered_length ∙ sym s.ticks_length, tt))
 
   pub contracts-differ : T (lengths_differ (contract_lengths contracts)) → TraceCall trace_limits (trace_lists unit l contracts) old old (refusal 8 3)
   unfolding check_trace trace_tests
@@ -36,9 +36,9 @@ module _ (count unit : ℕ) (l : EventLists) (contracts : ContractLists) (old : 
   pub many-events : (T (lengths_differ (contract_lengths contracts)) → ⊥) → trace_limits.events < count → TraceCall trace_limits (trace_lists unit l contracts) old old (refusal 9 count)
   unfolding check_trace trace_tests event_count
   many-events d h =
-      subst (λ (n : ℕ). TraceCall trace_limits (trace_lists unit l contracts) old old (refusal 9 n)) s.ticks-length
+      subst (λ (n : ℕ). TraceCall trace_limits (trace_lists unit l contracts) old old (refusal 9 n)) s.ticks_length
       (refused-call (trace_lists unit l contracts) old 9 (length l.ticks)
-      (more _ _ aligned (more _ _ d (stop (ltb trace_limits.events (length l.ticks)) _ (lt→ltb trace_limits.events (length l.ticks) (omega (arith, h, s.ticks-length)))))))
+      (more _ _ aligned (more _ _ d (stop (ltb trace_limits.events (length l.ticks)) _ (lt→ltb trace_limits.events (length l.ticks) (omega (arith, h, s.ticks_length)))))))
 
 -- events that are counted are the first entries of their lists
 module _ (unit : ℕ) (c : CountedEvents) (contracts : ContractLists) (old new : FindingLists) (r : TransientAssessment) (l : EventLists) (k : Counted c l) (h : c.count ≤ trace_limits.events) where
@@ -46,4 +46,4 @@ module _ (unit : ℕ) (c : CountedEvents) (contracts : ContractLists) (old new :
   firsts = event_lists (take c.count c.ticks) (take c.count c.components) (take c.count c.powered)
 
   pub on-firsts : TraceCall trace_limits (trace_lists unit firsts contracts) old new r → TraceCall trace_limits (trace_lists unit l contracts) old new r
-  on-firsts = subst (λ (m : EventLists). TraceCall trace_limits (trace_lists unit m contracts) old new r) (λ i. event_lists (sym (k.ticks-first h) i) (sym (k.components-first h) i) (sym (k.powered-first h) i))
+  on-firsts = subst (λ (m : EventLists). TraceCall trace_limits (trace_lists unit m contracts) old new r) (λ i. event_lists (sym (k.ticks_first h) i) (sym (k.components_first h) i) (sym (k.powered_first h) i))

@@ -12,9 +12,9 @@ fitted count = cond (leb count trace_limits.events) count 0
 
 -- so many events
 pub record Sized (count : ℕ) (l : EventLists) : Type 0 where
-  pub ticks-length : length l.ticks ≡ count
-  pub components-length : length l.components ≡ count
-  pub powered-length : length l.powered ≡ count
+  pub ticks_length : length l.ticks ≡ count
+  pub components_length : length l.components ≡ count
+  pub powered_length : length l.powered ≡ count
 
 -- the call with more events than a trace may have, whatever they are: it is refused, and every list keeps its contents
 abbrev pub RefusedSize : ℕ → ContractLists → TransientAssessment → Type 0
@@ -24,9 +24,9 @@ RefusedSize count contracts r =
 -- these are the events: so many, and the first entries of the lists if a trace may have so many
 pub record Counted (c : CountedEvents) (l : EventLists) : Type 0 where
   pub sized : Sized c.count l
-  pub ticks-first : c.count ≤ trace_limits.events → l.ticks ≡ take c.count c.ticks
-  pub components-first : c.count ≤ trace_limits.events → l.components ≡ take c.count c.components
-  pub powered-first : c.count ≤ trace_limits.events → l.powered ≡ take c.count c.powered
+  pub ticks_first : c.count ≤ trace_limits.events → l.ticks ≡ take c.count c.ticks
+  pub components_first : c.count ≤ trace_limits.events → l.components ≡ take c.count c.components
+  pub powered_first : c.count ≤ trace_limits.events → l.powered ≡ take c.count c.powered
 
 -- the trace call on these events
 abbrev pub CountedCall : ℕ → CountedEvents → ContractLists → (old new : FindingLists) → TransientAssessment → Type 0

@@ -22,32 +22,32 @@ use Rattle.laws.proofs.CallRefusals.{assess-accepted}
 -- The entries in use after the call: as many of lists 3, 4, 6 and 7 as the assessment says, and one of lists 5 and 8 for each component. That
 -- so many entries are the given ones also says that the list is that long
 pub record EntriesInUse (s : Scene) (a : Assessment) (new : AssessLists) : Type 0 where
-  pub is-assessment : a ≡ assessment s.components (edges s)
+  pub is_assessment : a ≡ assessment s.components (edges s)
   -- list 3
-  pub kinds-used : take a.reasons new.reason_kinds ≡ map reason_kind (reasons s.components (edges s))
-  pub components-used : take a.reasons new.reason_components ≡ map reason_component (reasons s.components (edges s))
-  pub blocks-used : take a.reasons new.reason_blocks ≡ map reason_block (reasons s.components (edges s))
-  pub minimums-used : take a.reasons new.reason_minimums ≡ map reason_minimum (reasons s.components (edges s))
-  pub maximums-used : take a.reasons new.reason_maximums ≡ map reason_maximum (reasons s.components (edges s))
+  pub kinds_used : take a.reasons new.reason_kinds ≡ map reason_kind (reasons s.components (edges s))
+  pub components_used : take a.reasons new.reason_components ≡ map reason_component (reasons s.components (edges s))
+  pub blocks_used : take a.reasons new.reason_blocks ≡ map reason_block (reasons s.components (edges s))
+  pub minimums_used : take a.reasons new.reason_minimums ≡ map reason_minimum (reasons s.components (edges s))
+  pub maximums_used : take a.reasons new.reason_maximums ≡ map reason_maximum (reasons s.components (edges s))
   -- list 4
-  pub feedback-used : take a.feedback new.feedback_ids ≡ feedback s.components (edges s)
+  pub feedback_used : take a.feedback new.feedback_ids ≡ feedback s.components (edges s)
   -- list 5
-  pub marks-used : take (length s.components) new.marks ≡ marks s.components (edges s)
+  pub marks_used : take (length s.components) new.marks ≡ marks s.components (edges s)
   -- lists 6 and 7
-  pub sources-used : take a.projected new.projected_sources ≡ map (λ p. p.source) (projected s.components (edges s))
-  pub sinks-used : take a.projected new.projected_sinks ≡ map (λ p. p.sink) (projected s.components (edges s))
-  pub inverted-used : take a.projected new.projected_inverted ≡ map (λ p. p.inverted) (projected s.components (edges s))
-  pub low-delays-used : take a.projected new.projected_minimums ≡ map (λ p. p.minimum) (projected s.components (edges s))
-  pub high-delays-used : take a.projected new.projected_maximums ≡ map (λ p. p.maximum) (projected s.components (edges s))
-  pub starts-used : take a.projected new.projected_starts ≡ path_starts (projected s.components (edges s))
-  pub lengths-used : take a.projected new.projected_lengths ≡ map path_length (projected s.components (edges s))
-  pub path-ids-used : take a.path_ids new.path_ids ≡ path_ids (projected s.components (edges s))
+  pub sources_used : take a.projected new.projected_sources ≡ map (λ p. p.source) (projected s.components (edges s))
+  pub sinks_used : take a.projected new.projected_sinks ≡ map (λ p. p.sink) (projected s.components (edges s))
+  pub inverted_used : take a.projected new.projected_inverted ≡ map (λ p. p.inverted) (projected s.components (edges s))
+  pub low_delays_used : take a.projected new.projected_minimums ≡ map (λ p. p.minimum) (projected s.components (edges s))
+  pub high_delays_used : take a.projected new.projected_maximums ≡ map (λ p. p.maximum) (projected s.components (edges s))
+  pub starts_used : take a.projected new.projected_starts ≡ path_starts (projected s.components (edges s))
+  pub lengths_used : take a.projected new.projected_lengths ≡ map path_length (projected s.components (edges s))
+  pub path_ids_used : take a.path_ids new.path_ids ≡ path_ids (projected s.components (edges s))
   -- the same read back entry by entry
-  pub edges-used : stored_edges new a.projected ≡ projected s.components (edges s)
+  pub edges_used : stored_edges new a.projected ≡ projected s.components (edges s)
   -- list 8
-  pub settled-used : take (length s.components) new.label_settled ≡ map settled_flag (labels s.components (edges s))
-  pub lows-used : take (length s.components) new.label_lows ≡ map low_sum (labels s.components (edges s))
-  pub highs-used : take (length s.components) new.label_highs ≡ map high_sum (labels s.components (edges s))
+  pub settled_used : take (length s.components) new.label_settled ≡ map settled_flag (labels s.components (edges s))
+  pub lows_used : take (length s.components) new.label_lows ≡ map low_sum (labels s.components (edges s))
+  pub highs_used : take (length s.components) new.label_highs ≡ map high_sum (labels s.components (edges s))
 
 module _ {A : Type 0} (l old xs : List A) (used : ℕ) where
   used-list : l ≡ written old xs → used ≡ length xs → take used l ≡ xs
@@ -72,26 +72,26 @@ entries-in-use s old new a call =
     let m = sym (marks-fit s.components (edges s)) in
     let n = sym (labels-fit s.components (edges s)) in
     record {
-      is-assessment = e;
-      kinds-used = used-field reason_kind _ _ rs _ call.reason-kinds r;
-      components-used = used-field reason_component _ _ rs _ call.reason-components r;
-      blocks-used = used-field reason_block _ _ rs _ call.reason-blocks r;
-      minimums-used = used-field reason_minimum _ _ rs _ call.reason-minimums r;
-      maximums-used = used-field reason_maximum _ _ rs _ call.reason-maximums r;
-      feedback-used = used-list _ _ (feedback s.components (edges s)) _ call.feedback-ids (ap (λ a. a.feedback) e);
-      marks-used = used-list _ _ (marks s.components (edges s)) _ call.marks m;
-      sources-used = used-field (λ p. p.source) _ _ ps _ call.projected-sources p;
-      sinks-used = used-field (λ p. p.sink) _ _ ps _ call.projected-sinks p;
-      inverted-used = used-field (λ p. p.inverted) _ _ ps _ call.projected-inverted p;
-      low-delays-used = used-field (λ p. p.minimum) _ _ ps _ call.projected-minimums p;
-      high-delays-used = used-field (λ p. p.maximum) _ _ ps _ call.projected-maximums p;
-      starts-used = used-list _ _ (path_starts ps) _ call.projected-starts (p ∙ sym (starts-length 0 ps));
-      lengths-used = used-field path_length _ _ ps _ call.projected-lengths p;
-      path-ids-used = used-list _ _ (path_ids ps) _ call.path-ids (ap (λ a. a.path_ids) e);
-      edges-used = ap (λ a. stored_edges new a.projected) e ∙ stored_back s old new call;
-      settled-used = used-field settled_flag _ _ ls _ call.label-settled n;
-      lows-used = used-field low_sum _ _ ls _ call.label-lows n;
-      highs-used = used-field high_sum _ _ ls _ call.label-highs n;
+      is_assessment = e;
+      kinds_used = used-field reason_kind _ _ rs _ call.reason_kinds r;
+      components_used = used-field reason_component _ _ rs _ call.reason_components r;
+      blocks_used = used-field reason_block _ _ rs _ call.reason_blocks r;
+      minimums_used = used-field reason_minimum _ _ rs _ call.reason_minimums r;
+      maximums_used = used-field reason_maximum _ _ rs _ call.reason_maximums r;
+      feedback_used = used-list _ _ (feedback s.components (edges s)) _ call.feedback_ids (ap (λ a. a.feedback) e);
+      marks_used = used-list _ _ (marks s.components (edges s)) _ call.marks m;
+      sources_used = used-field (λ p. p.source) _ _ ps _ call.projected_sources p;
+      sinks_used = used-field (λ p. p.sink) _ _ ps _ call.projected_sinks p;
+      inverted_used = used-field (λ p. p.inverted) _ _ ps _ call.projected_inverted p;
+      low_delays_used = used-field (λ p. p.minimum) _ _ ps _ call.projected_minimums p;
+      high_delays_used = used-field (λ p. p.maximum) _ _ ps _ call.projected_maximums p;
+      starts_used = used-list _ _ (path_starts ps) _ call.projected_starts (p ∙ sym (starts-length 0 ps));
+      lengths_used = used-field path_length _ _ ps _ call.projected_lengths p;
+      path_ids_used = used-list _ _ (path_ids ps) _ call.path_ids (ap (λ a. a.path_ids) e);
+      edges_used = ap (λ a. stored_edges new a.projected) e ∙ stored_back s old new call;
+      settled_used = used-field settled_flag _ _ ls _ call.label_settled n;
+      lows_used = used-field low_sum _ _ ls _ call.label_lows n;
+      highs_used = used-field high_sum _ _ ls _ call.label_highs n;
     }
 
 -- "Both get the answers of document 01's rules"

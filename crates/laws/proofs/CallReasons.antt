@@ -63,10 +63,10 @@ module _ (s : Scene) (old new : AssessLists) (a : Assessment) (call : AssessedBy
   shown→listed x =
       let k : x.index < length rs = omega (arith, x.in_use, all-used) in
       let r = get_or rs x.index feedback_loop in
-      let e : reason_kind r ≡ 0 = sym (field-entry rs reason_kind _ _ call.reason-kinds x.index k).1 ∙ x.kind.1 in
-      let c : reason_component r ≡ v = sym (field-entry rs reason_component _ _ call.reason-components x.index k).1 ∙ x.component.1 in
-      let p : reason_minimum r ≡ low = sym (field-entry rs reason_minimum _ _ call.reason-minimums x.index k).1 ∙ x.minimum.1 in
-      let q : reason_maximum r ≡ high = sym (field-entry rs reason_maximum _ _ call.reason-maximums x.index k).1 ∙ x.maximum.1 in
+      let e : reason_kind r ≡ 0 = sym (field-entry rs reason_kind _ _ call.reason_kinds x.index k).1 ∙ x.kind.1 in
+      let c : reason_component r ≡ v = sym (field-entry rs reason_component _ _ call.reason_components x.index k).1 ∙ x.component.1 in
+      let p : reason_minimum r ≡ low = sym (field-entry rs reason_minimum _ _ call.reason_minimums x.index k).1 ∙ x.minimum.1 in
+      let q : reason_maximum r ≡ high = sym (field-entry rs reason_maximum _ _ call.reason_maximums x.index k).1 ∙ x.maximum.1 in
       let whole = kind-unequal r e in
       let here : unequal_reconvergent_delay v low high ≡ r = cc in
       Memᴰ.cast here (at_mem feedback_loop rs x.index k)
@@ -77,10 +77,10 @@ module _ (s : Scene) (old new : AssessLists) (a : Assessment) (call : AssessedBy
       record {
         index = r.0;
         in_use = omega (arith, r.1, all-used);
-        kind = subst (EntryIs new.reason_kinds r.0) (ap reason_kind r.2) (field-entry rs reason_kind _ _ call.reason-kinds r.0 r.1);
-        component = subst (EntryIs new.reason_components r.0) (ap reason_component r.2) (field-entry rs reason_component _ _ call.reason-components r.0 r.1);
-        minimum = subst (EntryIs new.reason_minimums r.0) (ap reason_minimum r.2) (field-entry rs reason_minimum _ _ call.reason-minimums r.0 r.1);
-        maximum = subst (EntryIs new.reason_maximums r.0) (ap reason_maximum r.2) (field-entry rs reason_maximum _ _ call.reason-maximums r.0 r.1);
+        kind = subst (EntryIs new.reason_kinds r.0) (ap reason_kind r.2) (field-entry rs reason_kind _ _ call.reason_kinds r.0 r.1);
+        component = subst (EntryIs new.reason_components r.0) (ap reason_component r.2) (field-entry rs reason_component _ _ call.reason_components r.0 r.1);
+        minimum = subst (EntryIs new.reason_minimums r.0) (ap reason_minimum r.2) (field-entry rs reason_minimum _ _ call.reason_minimums r.0 r.1);
+        maximum = subst (EntryIs new.reason_maximums r.0) (ap reason_maximum r.2) (field-entry rs reason_maximum _ _ call.reason_maximums r.0 r.1);
       }
 
 -- "at least two connections end there and two path sums .. differ": of the edges ("structural supports aside"), with sums that add and do

@@ -23,42 +23,42 @@ use Rattle.laws.proofs.CallEntries.{EntriesInUse, assess-entries}
 -- (CallEntries, assess-entries)
 pub record SameEntries (n : ℕ) (a a' : Assessment) (new new' : AssessLists) : Type 0 where
   -- scope, pattern, confidence and every count
-  pub same-assessment : a ≡ a'
+  pub same_assessment : a ≡ a'
   -- "the same labels"
-  pub same-label-settled : take n new.label_settled ≡ take n new'.label_settled
-  pub same-label-lows : take n new.label_lows ≡ take n new'.label_lows
-  pub same-label-highs : take n new.label_highs ≡ take n new'.label_highs
+  pub same_label_settled : take n new.label_settled ≡ take n new'.label_settled
+  pub same_label_lows : take n new.label_lows ≡ take n new'.label_lows
+  pub same_label_highs : take n new.label_highs ≡ take n new'.label_highs
   -- "the same reasons in the same order"
-  pub same-reason-kinds : take a.reasons new.reason_kinds ≡ take a'.reasons new'.reason_kinds
-  pub same-reason-components : take a.reasons new.reason_components ≡ take a'.reasons new'.reason_components
-  pub same-reason-blocks : take a.reasons new.reason_blocks ≡ take a'.reasons new'.reason_blocks
-  pub same-reason-minimums : take a.reasons new.reason_minimums ≡ take a'.reasons new'.reason_minimums
-  pub same-reason-maximums : take a.reasons new.reason_maximums ≡ take a'.reasons new'.reason_maximums
+  pub same_reason_kinds : take a.reasons new.reason_kinds ≡ take a'.reasons new'.reason_kinds
+  pub same_reason_components : take a.reasons new.reason_components ≡ take a'.reasons new'.reason_components
+  pub same_reason_blocks : take a.reasons new.reason_blocks ≡ take a'.reasons new'.reason_blocks
+  pub same_reason_minimums : take a.reasons new.reason_minimums ≡ take a'.reasons new'.reason_minimums
+  pub same_reason_maximums : take a.reasons new.reason_maximums ≡ take a'.reasons new'.reason_maximums
   -- "a Feedback reason with list 4's ids"
-  pub same-feedback-ids : take a.feedback new.feedback_ids ≡ take a'.feedback new'.feedback_ids
+  pub same_feedback_ids : take a.feedback new.feedback_ids ≡ take a'.feedback new'.feedback_ids
   -- "the same retained and compressed components"
-  pub same-marks : take n new.marks ≡ take n new'.marks
+  pub same_marks : take n new.marks ≡ take n new'.marks
   -- "each projected edge with its path's ids, wherever these are stored, equally often": any test is passed equally often
-  pub same-projected : (test : ProjectedEdge → Bool) → count test (stored_edges new a.projected) ≡ count test (stored_edges new' a'.projected)
+  pub same_projected : (test : ProjectedEdge → Bool) → count test (stored_edges new a.projected) ≡ count test (stored_edges new' a'.projected)
 
 module _ (s t : Scene) (r : Reordered s t) (a a' : Assessment) (new new' : AssessLists) where
   entries-same : EntriesInUse s a new → EntriesInUse t a' new' → SameEntries (length s.components) a a' new new'
   entries-same one two =
       let same = same-answers s t r in
-      let n = ap length r.same-components in
+      let n = ap length r.same_components in
       record {
-        same-assessment = one.is-assessment ∙ same.same-assessment ∙ sym two.is-assessment;
-        same-label-settled = cc;
-        same-label-lows = cc;
-        same-label-highs = cc;
-        same-reason-kinds = cc;
-        same-reason-components = cc;
-        same-reason-blocks = cc;
-        same-reason-minimums = cc;
-        same-reason-maximums = cc;
-        same-feedback-ids = cc;
-        same-marks = cc;
-        same-projected = λ test. rw (one.edges-used, two.edges-used) (same.same-projected test);
+        same_assessment = one.is_assessment ∙ same.same_assessment ∙ sym two.is_assessment;
+        same_label_settled = cc;
+        same_label_lows = cc;
+        same_label_highs = cc;
+        same_reason_kinds = cc;
+        same_reason_components = cc;
+        same_reason_blocks = cc;
+        same_reason_minimums = cc;
+        same_reason_maximums = cc;
+        same_feedback_ids = cc;
+        same_marks = cc;
+        same_projected = λ test. rw (one.edges_used, two.edges_used) (same.same_projected test);
       }
 
 module _ (limits : SceneLimits) (l l' : ComponentLists) (m m' : ConnectionLists) (r : Reordered (scene_of l m) (scene_of l' m')) where
@@ -94,4 +94,4 @@ module _ (limits : SceneLimits) (l : ComponentLists) (m m' : ConnectionLists) (r
       let e = (assess-accepted limits l m old new a one).0 in
       let e' : assess_checked limits l m' old' ≡ Accepted = sym (checked-same limits l m' old old' lengths) ∙ same-assess limits l m m' r aligned _ _ _ _ _ _ e in
       two.answered ∙ ap (λ c. scene_answer c (scene_of l m')) e'
-      ∙ ap Assessed (sym ((assess-entries limits l m old new a one).is-assessment ∙ (same-answers (scene_of l m) (scene_of l m') r).same-assessment))
+      ∙ ap Assessed (sym ((assess-entries limits l m old new a one).is_assessment ∙ (same-answers (scene_of l m) (scene_of l m') r).same_assessment))

@@ -13,7 +13,7 @@ use Rattle.rules.specs.Refusals.{SceneLimits}
 use Rattle.rules.specs.Describe.{timed_edges, devices, evidence, describe_outputs, check_describe}
 use Rattle.rules.specs.Assess.{assess_outputs, check_assess}
 use Rattle.rules.specs.declared.answers.Checked.TheVariants.{Accepted}
-use Rattle.rules.proofs.Columns.{components-length, connections-length}
+use Rattle.rules.proofs.Columns.{components_length, connections-length}
 use Rattle.rules.proofs.Acceptance.{accepted→}
 use Rattle.laws.proofs.Room.{timed-edges-fit, devices-fit, evidence-fit, reasons-fit, feedback-fit, marks-fit, labels-fit, accepted-projected, accepted-path-ids}
 
@@ -24,17 +24,17 @@ Fits used lengths = (n : ℕ) → Memᴰ n lengths → used ≤ n
 -- of the call that writes lists 0, 1 and 2
 pub record DescribeRoom (cs : List Component) (ns : List Connection) (l0 l1 l2 : List ℕ) : Type 0 where
   pub edges_room : Fits (length (timed_edges cs ns)) l0
-  pub devices-room : Fits (length (devices cs)) l1
-  pub evidence-room : Fits (length (evidence cs ns)) l2
+  pub devices_room : Fits (length (devices cs)) l1
+  pub evidence_room : Fits (length (evidence cs ns)) l2
 
 -- of the call that writes lists 3 to 8
 pub record AssessRoom (cs : List Component) (es : List Edge) (l3 l4 l5 l6 l7 l8 : List ℕ) : Type 0 where
-  pub reasons-room : Fits (length (reasons cs es)) l3
-  pub feedback-room : Fits (length (feedback cs es)) l4
-  pub marks-room : Fits (length (marks cs es)) l5
-  pub projected-room : Fits (length (projected cs es)) l6
-  pub paths-room : Fits (length (path_ids (projected cs es))) l7
-  pub labels-room : Fits (length (labels cs es)) l8
+  pub reasons_room : Fits (length (reasons cs es)) l3
+  pub feedback_room : Fits (length (feedback cs es)) l4
+  pub marks_room : Fits (length (marks cs es)) l5
+  pub projected_room : Fits (length (projected cs es)) l6
+  pub paths_room : Fits (length (path_ids (projected cs es))) l7
+  pub labels_room : Fits (length (labels cs es)) l8
 
 module _ (limits : SceneLimits) (l : ComponentLists) (m : ConnectionLists) where
   abbrev cs : List Component
@@ -50,24 +50,24 @@ module _ (limits : SceneLimits) (l : ComponentLists) (m : ConnectionLists) where
   unfolding check_describe
   describe-room l0 l1 l2 e =
       let outputs = describe_outputs (length l.ids) (length m.sources) l0 l1 l2 in
-      let long = (accepted→ limits l m outputs e).outputs-long in
+      let long = (accepted→ limits l m outputs e).outputs_long in
       record {
         edges_room = λ n k. omega (arith, timed-edges-fit cs ns, connections-length m, long _ (Memᴰ.head refl) n k);
-        devices-room = λ n k. omega (arith, devices-fit cs ns, components-length l, long _ (Memᴰ.tail (Memᴰ.head refl)) n k);
-        evidence-room = λ n k. omega (arith, evidence-fit cs ns, connections-length m, components-length l, long _ (Memᴰ.tail (Memᴰ.tail (Memᴰ.head refl))) n k);
+        devices_room = λ n k. omega (arith, devices-fit cs ns, components_length l, long _ (Memᴰ.tail (Memᴰ.head refl)) n k);
+        evidence_room = λ n k. omega (arith, evidence-fit cs ns, connections-length m, components_length l, long _ (Memᴰ.tail (Memᴰ.tail (Memᴰ.head refl))) n k);
       }
 
   pub assess-room : (l3 l4 l5 l6 l7 l8 : List ℕ) → check_assess limits l m l3 l4 l5 l6 l7 l8 ≡ Accepted → AssessRoom cs es l3 l4 l5 l6 l7 l8
   unfolding check_assess
   assess-room l3 l4 l5 l6 l7 l8 e =
       let outputs = assess_outputs (length l.ids) (length m.sources) l3 l4 l5 l6 l7 l8 in
-      let long = (accepted→ limits l m outputs e).outputs-long in
-      let n-length = components-length l in
+      let long = (accepted→ limits l m outputs e).outputs_long in
+      let n-length = components_length l in
       record {
-        reasons-room = λ n k. omega (arith, reasons-fit cs es, long _ (Memᴰ.head refl) n k);
-        feedback-room = λ n k. omega (arith, feedback-fit cs es, long _ (Memᴰ.tail (Memᴰ.head refl)) n k);
-        marks-room = λ n k. omega (arith, marks-fit cs es, long _ (Memᴰ.tail (Memᴰ.tail (Memᴰ.head refl))) n k);
-        projected-room = λ n k. omega (arith, accepted-projected limits l m outputs e, long _ (Memᴰ.tail (Memᴰ.tail (Memᴰ.tail (Memᴰ.head refl)))) n k);
-        paths-room = λ n k. omega (arith, accepted-path-ids limits l m outputs e, long _ (Memᴰ.tail (Memᴰ.tail (Memᴰ.tail (Memᴰ.tail (Memᴰ.head refl))))) n k);
-        labels-room = λ n k. omega (arith, labels-fit cs es, long _ (Memᴰ.tail (Memᴰ.tail (Memᴰ.tail (Memᴰ.tail (Memᴰ.tail (Memᴰ.head refl)))))) n k);
+        reasons_room = λ n k. omega (arith, reasons-fit cs es, long _ (Memᴰ.head refl) n k);
+        feedback_room = λ n k. omega (arith, feedback-fit cs es, long _ (Memᴰ.tail (Memᴰ.head refl)) n k);
+        marks_room = λ n k. omega (arith, marks-fit cs es, long _ (Memᴰ.tail (Memᴰ.tail (Memᴰ.head refl))) n k);
+        projected_room = λ n k. omega (arith, accepted-projected limits l m outputs e, long _ (Memᴰ.tail (Memᴰ.tail (Memᴰ.tail (Memᴰ.head refl)))) n k);
+        paths_room = λ n k. omega (arith, accepted-path-ids limits l m outputs e, long _ (Memᴰ.tail (Memᴰ.tail (Memᴰ.tail (Memᴰ.tail (Memᴰ.head refl))))) n k);
+        labels_room = λ n k. omega (arith, labels-fit cs es, long _ (Memᴰ.tail (Memᴰ.tail (Memᴰ.tail (Memᴰ.tail (Memᴰ.tail (Memᴰ.head refl)))))) n k);
       }

@@ -31,14 +31,14 @@ module _ (limits : SceneLimits) (l : ComponentLists) (m : ConnectionLists) where
   -- an accepted scene is accepted with other output lists that are long enough
   with-outputs : {a : List Output} (b : List Output) → AcceptedScene limits l m a → ((o : Output) → Memᴰ o b → OutputLong o) → check_scene limits l m b ≡ Accepted
   with-outputs b s long = →accepted limits l m b record {
-    components-aligned = s.components-aligned;
-    connections-aligned = s.connections-aligned;
-    components-few = s.components-few;
-    connections-few = s.connections-few;
-    outputs-long = long;
-    components-fit = s.components-fit;
-    ids-distinct = s.ids-distinct;
-    connections-fit = s.connections-fit;
+    components_aligned = s.components_aligned;
+    connections_aligned = s.connections_aligned;
+    components_few = s.components_few;
+    connections_few = s.connections_few;
+    outputs_long = long;
+    components_fit = s.components_fit;
+    ids_distinct = s.ids_distinct;
+    connections_fit = s.connections_fit;
   }
 
   -- a scene that refuses otherwise than by 7 refuses so with no output lists
@@ -50,13 +50,13 @@ module _ (limits : SceneLimits) (l : ComponentLists) (m : ConnectionLists) where
   pub together : (a b : List Output) → check_scene limits l m (a ++ b) ≡ Accepted → (check_scene limits l m a ≡ Accepted) × (check_scene limits l m b ≡ Accepted)
   together a b e =
       let s = accepted→ limits l m (a ++ b) e in
-      (with-outputs a s (λ o k. s.outputs-long o (Memᴰ.append_left b k)), with-outputs b s (λ o k. s.outputs-long o (Memᴰ.append_right a k)))
+      (with-outputs a s (λ o k. s.outputs_long o (Memᴰ.append_left b k)), with-outputs b s (λ o k. s.outputs_long o (Memᴰ.append_right a k)))
 
   -- and one that is accepted with each is accepted with both
   pub both : (a b : List Output) → check_scene limits l m a ≡ Accepted → check_scene limits l m b ≡ Accepted → check_scene limits l m (a ++ b) ≡ Accepted
   both a b e f =
       let s = accepted→ limits l m a e in
-      with-outputs (a ++ b) s (λ o k. ⊎_elim (s.outputs-long o) ((accepted→ limits l m b f).outputs-long o) (Memᴰ.append_cases a k))
+      with-outputs (a ++ b) s (λ o k. ⊎_elim (s.outputs_long o) ((accepted→ limits l m b f).outputs_long o) (Memᴰ.append_cases a k))
 
   -- where one of two calls on a scene is accepted and the other refused, an output list of the refused one is too short
   pub apart : (a b : List Output) {number place : ℕ} → check_scene limits l m a ≡ Accepted → check_scene limits l m b ≡ Refused number place → number ≡ 7

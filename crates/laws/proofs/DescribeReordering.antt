@@ -52,20 +52,20 @@ stored_evidence o k =
 -- What two calls answer, with so many timed edges (e), devices (d) and evidence (v), and leave in their lists. These entries were written, so
 -- after an accepted call every list is as long as its entries in use
 pub record SameDescribed (e d v e' d' v' : ℕ) (new new' : DescribeLists) : Type 0 where
-  pub same-edge-count : e ≡ e'
-  pub same-device-count : d ≡ d'
-  pub same-evidence-count : v ≡ v'
+  pub same_edge_count : e ≡ e'
+  pub same_device_count : d ≡ d'
+  pub same_evidence_count : v ≡ v'
   -- list 0, which follows connection order: each entry equally often
-  pub same-timed-edges : (test : TimedEdge → Bool) → count test (map (stored_timed_edge new) (indices e)) ≡ count test (map (stored_timed_edge new') (indices e'))
+  pub same_timed_edges : (test : TimedEdge → Bool) → count test (map (stored_timed_edge new) (indices e)) ≡ count test (map (stored_timed_edge new') (indices e'))
   -- list 1, in component order
-  pub same-device-components : take d new.device_components ≡ take d' new'.device_components
-  pub same-device-xs : take d new.device_xs ≡ take d' new'.device_xs
-  pub same-device-ys : take d new.device_ys ≡ take d' new'.device_ys
-  pub same-device-zs : take d new.device_zs ≡ take d' new'.device_zs
-  pub same-device-semantics : take d new.device_semantics ≡ take d' new'.device_semantics
-  pub same-device-delays : take d new.device_delays ≡ take d' new'.device_delays
+  pub same_device_components : take d new.device_components ≡ take d' new'.device_components
+  pub same_device_xs : take d new.device_xs ≡ take d' new'.device_xs
+  pub same_device_ys : take d new.device_ys ≡ take d' new'.device_ys
+  pub same_device_zs : take d new.device_zs ≡ take d' new'.device_zs
+  pub same_device_semantics : take d new.device_semantics ≡ take d' new'.device_semantics
+  pub same_device_delays : take d new.device_delays ≡ take d' new'.device_delays
   -- list 2: each entry equally often
-  pub same-evidence : (test : EvidenceEntry → Bool) → count test (map (stored_evidence new) (indices v)) ≡ count test (map (stored_evidence new') (indices v'))
+  pub same_evidence : (test : EvidenceEntry → Bool) → count test (map (stored_evidence new) (indices v)) ≡ count test (map (stored_evidence new') (indices v'))
 
 abbrev evidence_entry : Evidence → EvidenceEntry
 evidence_entry x = record { kind = evidence_kind x; source = evidence_source x; sink = evidence_sink x; component = evidence_component x; block = evidence_block x }
@@ -102,11 +102,11 @@ module _ (s : Scene) (old new : DescribeLists) (e d v : ℕ) (call : DescribedBy
     where
       back : (k : ℕ) → k < length es → stored_timed_edge new k ≡ get_or es k no_edge
       back k h =
-          let a = field_back (λ t. t.source) _ _ es no_edge 0 k call.edge-sources h in
-          let b = field_back (λ t. t.sink) _ _ es no_edge 0 k call.edge-sinks h in
-          let c = field_back (λ t. t.minimum) _ _ es no_edge 0 k call.edge-minimums h in
-          let f = field_back (λ t. t.maximum) _ _ es no_edge 0 k call.edge-maximums h in
-          let g = field_back (λ t. t.behavior) _ _ es no_edge 0 k call.edge-behaviors h in
+          let a = field_back (λ t. t.source) _ _ es no_edge 0 k call.edge_sources h in
+          let b = field_back (λ t. t.sink) _ _ es no_edge 0 k call.edge_sinks h in
+          let c = field_back (λ t. t.minimum) _ _ es no_edge 0 k call.edge_minimums h in
+          let f = field_back (λ t. t.maximum) _ _ es no_edge 0 k call.edge_maximums h in
+          let g = field_back (λ t. t.behavior) _ _ es no_edge 0 k call.edge_behaviors h in
           rw (a, b, c, f, g)
 
   evidence-back : map (stored_evidence new) (indices v) ≡ map evidence_entry vs
@@ -118,11 +118,11 @@ module _ (s : Scene) (old new : DescribeLists) (e d v : ℕ) (call : DescribedBy
       back : (k : ℕ) → k < length (map evidence_entry vs) → stored_evidence new k ≡ get_or (map evidence_entry vs) k (evidence_entry no_evidence)
       back k i =
           let h : k < length vs = omega (arith, length-map vs evidence_entry) in
-          let a = field_back evidence_kind _ _ vs no_evidence 0 k call.evidence-kinds h in
-          let b = field_back evidence_source _ _ vs no_evidence 0 k call.evidence-sources h in
-          let c = field_back evidence_sink _ _ vs no_evidence 0 k call.evidence-sinks h in
-          let f = field_back evidence_component _ _ vs no_evidence 0 k call.evidence-components h in
-          let g = field_back evidence_block _ _ vs no_evidence 0 k call.evidence-blocks h in
+          let a = field_back evidence_kind _ _ vs no_evidence 0 k call.evidence_kinds h in
+          let b = field_back evidence_source _ _ vs no_evidence 0 k call.evidence_sources h in
+          let c = field_back evidence_sink _ _ vs no_evidence 0 k call.evidence_sinks h in
+          let f = field_back evidence_component _ _ vs no_evidence 0 k call.evidence_components h in
+          let g = field_back evidence_block _ _ vs no_evidence 0 k call.evidence_blocks h in
           rw (a, b, c, f, g, map_at evidence_entry vs k no_evidence (evidence_entry no_evidence) h)
 
   evidence-read : (test : EvidenceEntry → Bool) → count test (map (stored_evidence new) (indices v)) ≡ count (λ x. test (evidence_entry x)) vs
@@ -138,7 +138,7 @@ module _ (s t : Scene) (r : Reordered s t) (old new old' new' : DescribeLists) (
       → SameDescribed e d v e' d' v' new new'
   described-same one two =
       let same = same-description s t r in
-      let answers : Described e d v ≡ Described e' d' v' = one.answered ∙ same.same-counts ∙ sym two.answered in
+      let answers : Described e d v ≡ Described e' d' v' = one.answered ∙ same.same_counts ∙ sym two.answered in
       let n = device-count s old new e d v one in
       let n' = device-count t old' new' e' d' v' two in
       let b = timed-back s old new e d v one in
@@ -146,17 +146,17 @@ module _ (s t : Scene) (r : Reordered s t) (old new old' new' : DescribeLists) (
       let c = evidence-read s old new e d v one in
       let c' = evidence-read t old' new' e' d' v' two in
       record {
-        same-edge-count = cc;
-        same-device-count = cc;
-        same-evidence-count = cc;
-        same-timed-edges = λ test. rw (b, b') (same.same-timed test);
-        same-device-components = same-field (λ x. x.component) _ _ _ _ d d' one.device-components two.device-components n n' same.same-devices;
-        same-device-xs = same-field (λ x. x.x) _ _ _ _ d d' one.device-xs two.device-xs n n' same.same-devices;
-        same-device-ys = same-field (λ x. x.y) _ _ _ _ d d' one.device-ys two.device-ys n n' same.same-devices;
-        same-device-zs = same-field (λ x. x.z) _ _ _ _ d d' one.device-zs two.device-zs n n' same.same-devices;
-        same-device-semantics = same-field (λ x. x.semantics) _ _ _ _ d d' one.device-semantics two.device-semantics n n' same.same-devices;
-        same-device-delays = same-field (λ x. x.minimum_delay) _ _ _ _ d d' one.device-delays two.device-delays n n' same.same-devices;
-        same-evidence = λ test. rw (c test, c' test) (same.same-evidence (λ x. test (evidence_entry x)));
+        same_edge_count = cc;
+        same_device_count = cc;
+        same_evidence_count = cc;
+        same_timed_edges = λ test. rw (b, b') (same.same_timed test);
+        same_device_components = same-field (λ x. x.component) _ _ _ _ d d' one.device_components two.device_components n n' same.same_devices;
+        same_device_xs = same-field (λ x. x.x) _ _ _ _ d d' one.device_xs two.device_xs n n' same.same_devices;
+        same_device_ys = same-field (λ x. x.y) _ _ _ _ d d' one.device_ys two.device_ys n n' same.same_devices;
+        same_device_zs = same-field (λ x. x.z) _ _ _ _ d d' one.device_zs two.device_zs n n' same.same_devices;
+        same_device_semantics = same-field (λ x. x.semantics) _ _ _ _ d d' one.device_semantics two.device_semantics n n' same.same_devices;
+        same_device_delays = same-field (λ x. x.minimum_delay) _ _ _ _ d d' one.device_delays two.device_delays n n' same.same_devices;
+        same_evidence = λ test. rw (c test, c' test) (same.same_evidence (λ x. test (evidence_entry x)));
       }
 
 module _ (limits : SceneLimits) (l l' : ComponentLists) (m m' : ConnectionLists) (r : Reordered (scene_of l m) (scene_of l' m')) where
@@ -188,4 +188,4 @@ module _ (limits : SceneLimits) (l : ComponentLists) (m m' : ConnectionLists) (r
   described-together old new old' new' e d v answer lengths one two =
       let a = describe-accepted limits l m old new e d v one in
       let b : describe_checked limits l m' old' ≡ Accepted = sym (checked-same limits l m' old old' lengths) ∙ same-describe limits l m m' r aligned _ _ _ a.0 in
-      two.answered ∙ ap (λ c. description c (scene_of l m')) b ∙ sym (a.1.answered ∙ (same-description (scene_of l m) (scene_of l m') r).same-counts)
+      two.answered ∙ ap (λ c. description c (scene_of l m')) b ∙ sym (a.1.answered ∙ (same-description (scene_of l m) (scene_of l m') r).same_counts)

@@ -87,13 +87,13 @@ rows_all es (v ∷ vs) p h = omega (
 -- what an entry of list 6 is: it leads from a retained component to a retained one, its path goes there through compressed components only and
 -- along edges, and no component stands in it twice, but that the last may be the first
 pub record ProjectedFacts (cs : List Component) (es : List Edge) (p : ProjectedEdge) : Type 0 where
-  pub source-retained : Memᴰ p.source (retained cs es)
-  pub sink-retained : Memᴰ p.sink (retained cs es)
+  pub source_retained : Memᴰ p.source (retained cs es)
+  pub sink_retained : Memᴰ p.sink (retained cs es)
   pub middle : List ℕ
-  pub path-parts : p.path ≡ p.source ∷ (middle ++ (p.sink ∷ []))
-  pub middle-compressed : (v : ℕ) → Memᴰ v middle → T (compressed cs es v)
-  pub path-joined : Joined es p.path
-  pub path-once : Distinct (before_last p.path)
+  pub path_parts : p.path ≡ p.source ∷ (middle ++ (p.sink ∷ []))
+  pub middle_compressed : (v : ℕ) → Memᴰ v middle → T (compressed cs es v)
+  pub path_joined : Joined es p.path
+  pub path_once : Distinct (before_last p.path)
 
 module _ (cs : List Component) (es : List Edge) where
   -- the sources of list 6 rise
@@ -143,13 +143,13 @@ module _ (cs : List Component) (es : List Edge) where
         along-edge e n =
             let k = first-edges-out cs es e n in
             record {
-              source-retained = k.1;
-              sink-retained = ends-retained cs es (λ f i. (listed f i).1) e n;
+              source_retained = k.1;
+              sink_retained = ends-retained cs es (λ f i. (listed f i).1) e n;
               middle = inner cs es e;
-              path-parts = chain-parts cs es e;
-              middle-compressed = chain-inner cs es e;
-              path-joined = chain-edges cs es e k.0;
-              path-once = chain-once cs es e k.0 (first-kept cs es e n);
+              path_parts = chain-parts cs es e;
+              middle_compressed = chain-inner cs es e;
+              path_joined = chain-edges cs es e k.0;
+              path_once = chain-once cs es e k.0 (first-kept cs es e n);
             }
 
     -- an edge out of a retained component is a first edge exactly as often as it is listed, and no other edge is one

@@ -28,7 +28,7 @@ module _ (es fs : List Edge) (h : Within es fs) (k : Within fs es) where
   sums-under : {f : ℕ → ℕ → ℕ} (C : Choice f) (d : ℕ → ℕ) (v : ℕ) → Under C (map (delay_sum d) (paths_to es v)) (map (delay_sum d) (paths_to fs v))
   sums-under C d v x m =
       let r = Memᴰ.of_map (delay_sum d) (paths_to es v) m in
-      (x, Memᴰ.cast (sym r.2) (Memᴰ.map (delay_sum d) (path→listed fs (path-same es fs h k (listed→path es v r.0 r.1)))), C.good-refl x)
+      (x, Memᴰ.cast (sym r.2) (Memᴰ.map (delay_sum d) (path→listed fs (path-same es fs h k (listed→path es v r.0 r.1)))), C.good_refl x)
 
 -- equal as functions, so that whatever is made of them is equal
 module _ {es fs : List Edge} (p : Permᴰ es fs) where

@@ -196,6 +196,11 @@ module _ (cs : List Component) (es : List Edge) where
     unfolding projected
     projected-count = omega (arith, length-map (first_edges cs es) (projected_along cs es), count-every (first_edges cs es), first-edges-count (λ e. true), count-every es)
 
+    -- no component is between the ends twice, over all chains
+    pub inners-once : Distinct (flat_map (inner cs es) (first_edges cs es))
+    unfolding first_edges
+    inners-once = between-once cs es (retained cs es) retained-distinct retained-out
+
     -- the paths of all projected edges have at most two ids for each edge
     pub path-ids-count : length (path_ids (projected cs es)) ≤ 2 * length es
     unfolding projected path_ids first_edges projected_along projected_by

@@ -27,25 +27,25 @@ use Rattle.laws.proofs.Projection.{compressed-order, marks-order, projected-orde
 
 -- "two accepted scenes that list the same components in the same order, and the same connections, each equally often, in any order"
 pub record Reordered (s t : Scene) : Type 0 where
-  pub same-components : s.components ≡ t.components
-  pub same-connections : (n : Connection) → count (same_connection n) s.connections ≡ count (same_connection n) t.connections
+  pub same_components : s.components ≡ t.components
+  pub same_connections : (n : Connection) → count (same_connection n) s.connections ≡ count (same_connection n) t.connections
 
 -- "the same labels, the same reasons in the same order, the same retained and compressed components, and each projected edge with its path's
 -- ids .. equally often"; scope, pattern and every count are in the assessment
 pub record SameAnswers (s t : Scene) : Type 0 where
-  pub same-labels : labels s.components (edges s) ≡ labels t.components (edges t)
-  pub same-reasons : reasons s.components (edges s) ≡ reasons t.components (edges t)
-  pub same-feedback : feedback s.components (edges s) ≡ feedback t.components (edges t)
-  pub same-marks : marks s.components (edges s) ≡ marks t.components (edges t)
-  pub same-assessment : assessment s.components (edges s) ≡ assessment t.components (edges t)
-  pub same-projected : (test : ProjectedEdge → Bool) → count test (projected s.components (edges s)) ≡ count test (projected t.components (edges t))
+  pub same_labels : labels s.components (edges s) ≡ labels t.components (edges t)
+  pub same_reasons : reasons s.components (edges s) ≡ reasons t.components (edges t)
+  pub same_feedback : feedback s.components (edges s) ≡ feedback t.components (edges t)
+  pub same_marks : marks s.components (edges s) ≡ marks t.components (edges t)
+  pub same_assessment : assessment s.components (edges s) ≡ assessment t.components (edges t)
+  pub same_projected : (test : ProjectedEdge → Bool) → count test (projected s.components (edges s)) ≡ count test (projected t.components (edges t))
 
 -- lists 0, 1 and 2: as many entries, each equally often
 pub record SameDescription (s t : Scene) : Type 0 where
-  pub same-counts : description Accepted s ≡ description Accepted t
-  pub same-timed : (test : TimedEdge → Bool) → count test (timed_edges s.components s.connections) ≡ count test (timed_edges t.components t.connections)
-  pub same-devices : devices s.components ≡ devices t.components
-  pub same-evidence : (test : Evidence → Bool) → count test (evidence s.components s.connections) ≡ count test (evidence t.components t.connections)
+  pub same_counts : description Accepted s ≡ description Accepted t
+  pub same_timed : (test : TimedEdge → Bool) → count test (timed_edges s.components s.connections) ≡ count test (timed_edges t.components t.connections)
+  pub same_devices : devices s.components ≡ devices t.components
+  pub same_evidence : (test : Evidence → Bool) → count test (evidence s.components s.connections) ≡ count test (evidence t.components t.connections)
 
 abbrev connection : ℕ → ℕ → ℕ → Connection
 connection a b c = record { source = a; sink = b; transfer = c }
@@ -82,7 +82,7 @@ module _ (cs : List Component) {ns ms : List Connection} (p : Permᴰ ns ms) whe
 module _ (s t : Scene) (r : Reordered s t) where
   -- the connections of the one are those of the other in another order
   perm : Permᴰ s.connections t.connections
-  perm = often→perm same_connection same-sound same-own s.connections t.connections r.same-connections
+  perm = often→perm same_connection same-sound same-own s.connections t.connections r.same_connections
 
   abbrev cs : List Component
   cs = t.components
@@ -90,22 +90,22 @@ module _ (s t : Scene) (r : Reordered s t) where
   -- the answers are the same
   pub same-answers : SameAnswers s t
   same-answers =
-      rw r.same-components record {
-        same-labels = labels-order (edges-order perm) cs;
-        same-reasons = reasons-order (edges-order perm) cs;
-        same-feedback = feedback-order (edges-order perm) cs;
-        same-marks = marks-order (edges-order perm) cs;
-        same-assessment = assessment-order cs (edges-order perm);
-        same-projected = λ test. perm-count test (projected-order (edges-order perm) cs);
+      rw r.same_components record {
+        same_labels = labels-order (edges-order perm) cs;
+        same_reasons = reasons-order (edges-order perm) cs;
+        same_feedback = feedback-order (edges-order perm) cs;
+        same_marks = marks-order (edges-order perm) cs;
+        same_assessment = assessment-order cs (edges-order perm);
+        same_projected = λ test. perm-count test (projected-order (edges-order perm) cs);
       }
 
   pub same-description : SameDescription s t
   same-description =
-      rw r.same-components record {
-        same-counts = rw (perm-length (timed-order cs perm), perm-length (evidence-order cs perm));
-        same-timed = λ test. perm-count test (timed-order cs perm);
-        same-devices = refl;
-        same-evidence = λ test. perm-count test (evidence-order cs perm);
+      rw r.same_components record {
+        same_counts = rw (perm-length (timed-order cs perm), perm-length (evidence-order cs perm));
+        same_timed = λ test. perm-count test (timed-order cs perm);
+        same_devices = refl;
+        same_evidence = λ test. perm-count test (evidence-order cs perm);
       }
 
 -- The one is accepted if the other is. `Reordered` reads the connection lists up to the length of the sources, so it is said that the

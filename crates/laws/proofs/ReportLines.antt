@@ -58,16 +58,16 @@ number-32 v h = record { size = length-32 v h }
 abbrev pub Short : List ℕ → Type 0
 Short vs = (v : ℕ) → Memᴰ v vs → Bits64 v
 
-pub ids-size : (vs : List ℕ) → Short vs → UpTo (21 * length vs) (ids_text vs)
+pub ids_size : (vs : List ℕ) → Short vs → UpTo (21 * length vs) (ids_text vs)
 unfolding ids_text
-ids-size [] h = record { size = omega arith }
-ids-size (v ∷ []) h = record { size = omega (arith, length-64 v (h v (Memᴰ.head refl))) }
-ids-size (v ∷ w ∷ vs) h = record {
+ids_size [] h = record { size = omega arith }
+ids_size (v ∷ []) h = record { size = omega (arith, length-64 v (h v (Memᴰ.head refl))) }
+ids_size (v ∷ w ∷ vs) h = record {
   size = omega (
     arith,
     length-64 v (h v (Memᴰ.head refl)),
     length-append (decimal v) (code "," ∷ ids_text (w ∷ vs)),
-    (ids-size (w ∷ vs) (λ u m. h u (Memᴰ.tail m))).size,
+    (ids_size (w ∷ vs) (λ u m. h u (Memᴰ.tail m))).size,
   );
 }
 
@@ -94,8 +94,8 @@ scope-size TemporalRequired = record { size = omega arith }
 
 pub pattern-size : (ids : List ℕ) (p : BehaviorPattern) → Short ids → UpTo (12 + 21 * length ids) (pattern_text ids p)
 pattern-size ids DelayedPath h = record { size = omega arith }
-pattern-size ids ClockCandidate h = record { size = omega (arith, (ids-size ids h).size) }
-pattern-size ids LatchCandidate h = record { size = omega (arith, (ids-size ids h).size) }
+pattern-size ids ClockCandidate h = record { size = omega (arith, (ids_size ids h).size) }
+pattern-size ids LatchCandidate h = record { size = omega (arith, (ids_size ids h).size) }
 pattern-size ids Nothing h = record { size = omega arith }
 
 -- a reason other than Feedback, whose numbers are so short
@@ -127,24 +127,24 @@ reason-line-size ids r h = line (bytes "reason=") (reason-size ids r h)
 pub loop-size : (ids l : List ℕ) → Short ids → UpTo (17 + 21 * length ids) (flat_map (reason_line ids) (feedback_reason l))
 unfolding flat_map feedback_reason reason_line
 loop-size ids [] h = record { size = omega arith }
-loop-size ids (x ∷ l) h = record { size = omega (arith, length-append (ids_text ids) (line_feed ∷ []), length-append (ids_text ids ++ (line_feed ∷ [])) [], (ids-size ids h).size) }
+loop-size ids (x ∷ l) h = record { size = omega (arith, length-append (ids_text ids) (line_feed ∷ []), length-append (ids_text ids ++ (line_feed ∷ [])) [], (ids_size ids h).size) }
 
 -- a projected edge whose numbers are so short
 pub record ProjectedShort (p : ProjectedEdge) : Type 0 where
-  pub source-short : Bits64 p.source
-  pub sink-short : Bits64 p.sink
-  pub inverted-short : p.inverted < 10
-  pub minimum-short : Bits32 p.minimum
-  pub maximum-short : Bits32 p.maximum
-  pub path-short : Short p.path
+  pub source_short : Bits64 p.source
+  pub sink_short : Bits64 p.sink
+  pub inverted_short : p.inverted < 10
+  pub minimum_short : Bits32 p.minimum
+  pub maximum_short : Bits32 p.maximum
+  pub path_short : Short p.path
 
 lines-size : (p : ProjectedEdge) → ProjectedShort p → length (projected_lines p) ≤ 109 + 21 * length p.path
 unfolding projected_lines
 lines-size p h =
-    let inverted : UpTo 1 (decimal p.inverted) = record { size = decimal-length p.inverted 1 h.inverted-short (omega arith) } in
+    let inverted : UpTo 1 (decimal p.inverted) = record { size = decimal-length p.inverted 1 h.inverted_short (omega arith) } in
     let all =
-    joined (line (bytes "source=") (number-64 p.source h.source-short)) (joined (line (bytes "sink=") (number-64 p.sink h.sink-short)) (joined (line (bytes "inverted=") inverted)
-    (joined (line (bytes "minimum=") (number-32 p.minimum h.minimum-short)) (joined (line (bytes "maximum=") (number-32 p.maximum h.maximum-short)) (line (bytes "path=") (ids-size p.path h.path-short)))))) in
+    joined (line (bytes "source=") (number-64 p.source h.source_short)) (joined (line (bytes "sink=") (number-64 p.sink h.sink_short)) (joined (line (bytes "inverted=") inverted)
+    (joined (line (bytes "minimum=") (number-32 p.minimum h.minimum_short)) (joined (line (bytes "maximum=") (number-32 p.maximum h.maximum_short)) (line (bytes "path=") (ids_size p.path h.path_short)))))) in
     omega (arith, all.size)
 
 pub projected-size : (ps : List ProjectedEdge) → ((p : ProjectedEdge) → Memᴰ p ps → ProjectedShort p) → UpTo (109 * length ps + 21 * length (path_ids ps)) (flat_map projected_lines ps)

@@ -117,12 +117,12 @@ module _ (cs : List Component) (es : List Edge) (short : Short (map id_of cs)) w
 
         along-edge : (e : Edge) → Memᴰ e es → ProjectedShort (projected_along cs es e)
         along-edge e k = record {
-          source-short = short _ (listed e k).0;
-          sink-short = met _ (Memᴰ.append_right (inner cs es e) (Memᴰ.head refl));
-          inverted-short = inverted-digit (flips (inverts_at cs) (before_last (chain_from cs es e)));
-          minimum-short = sum-capped (delay_at cs) (before_last (chain_from cs es e));
-          maximum-short = sum-capped (delay_at cs) (before_last (chain_from cs es e));
-          path-short = λ v n. ⊎_elim (λ q. short v (Memᴰ.cast q (listed e k).0)) (met v) (Memᴰ.cases_cons (subst (Memᴰ v) (chain-parts cs es e) n));
+          source_short = short _ (listed e k).0;
+          sink_short = met _ (Memᴰ.append_right (inner cs es e) (Memᴰ.head refl));
+          inverted_short = inverted-digit (flips (inverts_at cs) (before_last (chain_from cs es e)));
+          minimum_short = sum-capped (delay_at cs) (before_last (chain_from cs es e));
+          maximum_short = sum-capped (delay_at cs) (before_last (chain_from cs es e));
+          path_short = λ v n. ⊎_elim (λ q. short v (Memᴰ.cast q (listed e k).0)) (met v) (Memᴰ.cases_cons (subst (Memᴰ v) (chain-parts cs es e) n));
         }
           where
             met : Short (inner cs es e ++ (last_of (chain_from cs es e) ∷ []))
@@ -154,8 +154,8 @@ module _ (limits : SceneLimits) (s : Scene) (accepted : check_read limits s ≡ 
     arith,
     report-length s.components (edges s) short-ids (rw (fields-components s.components, fields-connections s.connections) at (edge-ends facts)) (rw (fields-components s.components) at (accepted-ids facts))
         (length s.connections) (edges_fit_lem s.components s.connections),
-    facts.components-few,
-    facts.connections-few,
+    facts.components_few,
+    facts.connections_few,
     length-map s.components id_of,
     length-map s.connections (λ n. n.source),
   )

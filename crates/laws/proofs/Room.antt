@@ -24,7 +24,7 @@ use Rattle.rules.proofs.Permutations.{keep-length, perm-length}
 use Rattle.rules.proofs.Counts.{count_under, count-every}
 use Rattle.rules.proofs.ReasonLaws.{own-cases}
 use Rattle.rules.proofs.Sorting.{rising-ids-perm}
-use Rattle.rules.proofs.Columns.{components-length, connections-length}
+use Rattle.rules.proofs.Columns.{components_length, connections-length}
 use Rattle.rules.proofs.Acceptance.{AcceptedScene, accepted→, accepted-ids, edge-ends}
 use Rattle.laws.proofs.PlainSums.{capped-total, path-plain, total-bound, delay-bound}
 use Rattle.laws.proofs.Chains.{chain-before, chain-once}
@@ -156,14 +156,14 @@ module _ (limits : SceneLimits) (l : ComponentLists) (m : ConnectionLists) (outp
   accepted-path-ids = omega (
     arith,
     path-ids-fit components joins (edge-ends facts) (accepted-ids facts) (length m.sources) (omega (arith, edges_fit_lem components (connections_of m), connections-length m)),
-    components-length l,
+    components_length l,
   )
 
   -- path sums and projected delays are plain sums
   pub accepted-path-plain : (limits.components - 1) * 255 ≤ cap → {v : ℕ} {p : List ℕ} → PathTo joins v p → delay_sum (delay_at components) p ≡ total (delay_at components) p
-  accepted-path-plain h P = path-plain components joins (edge-ends facts) limits.components (omega (arith, facts.components-few, components-length l)) h P
+  accepted-path-plain h P = path-plain components joins (edge-ends facts) limits.components (omega (arith, facts.components_few, components_length l)) h P
 
   pub accepted-projected-plain : limits.components * 255 ≤ cap → (e : Edge) → Memᴰ e (first_edges components joins)
       → delay_sum (delay_at components) (before_last (chain_from components joins e)) ≡ total (delay_at components) (before_last (chain_from components joins e))
   accepted-projected-plain h e n =
-      projected-plain components joins (edge-ends facts) (accepted-ids facts) e n (omega (arith, facts.components-few, components-length l))
+      projected-plain components joins (edge-ends facts) (accepted-ids facts) e n (omega (arith, facts.components_few, components_length l))

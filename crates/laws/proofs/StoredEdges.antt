@@ -37,12 +37,12 @@ module _ (s : Scene) (old new : AssessLists) {answer : SceneAnswer} (call : Asse
     where
       back : (k : ℕ) → k < length ps → stored_edge new k ≡ get_or ps k none
       back k h =
-          let a = field_back (λ p. p.source) new.projected_sources old.projected_sources ps none 0 k call.projected-sources h in
-          let b = field_back (λ p. p.sink) new.projected_sinks old.projected_sinks ps none 0 k call.projected-sinks h in
-          let c = field_back (λ p. p.inverted) new.projected_inverted old.projected_inverted ps none 0 k call.projected-inverted h in
-          let d = field_back (λ p. p.minimum) new.projected_minimums old.projected_minimums ps none 0 k call.projected-minimums h in
-          let e = field_back (λ p. p.maximum) new.projected_maximums old.projected_maximums ps none 0 k call.projected-maximums h in
+          let a = field_back (λ p. p.source) new.projected_sources old.projected_sources ps none 0 k call.projected_sources h in
+          let b = field_back (λ p. p.sink) new.projected_sinks old.projected_sinks ps none 0 k call.projected_sinks h in
+          let c = field_back (λ p. p.inverted) new.projected_inverted old.projected_inverted ps none 0 k call.projected_inverted h in
+          let d = field_back (λ p. p.minimum) new.projected_minimums old.projected_minimums ps none 0 k call.projected_minimums h in
+          let e = field_back (λ p. p.maximum) new.projected_maximums old.projected_maximums ps none 0 k call.projected_maximums h in
           let f : projected_path new.path_ids new.projected_starts new.projected_lengths k ≡ (get_or ps k none).path =
-          rw (call.path-ids, call.projected-starts, call.projected-lengths)
+          rw (call.path_ids, call.projected_starts, call.projected_lengths)
           (path-back old.path_ids old.projected_starts old.projected_lengths ps k h ∙ map_at (λ p. p.path) ps k none [] h) in
           rw (a, b, c, d, e, f)

@@ -81,11 +81,11 @@ pub data Recordings (limits : TraceLimits) : TransientRecord → Type 0 where
 -- a record has five tallies, and is true
 record Sound (limits : TraceLimits) (r : TransientRecord) : Type 0 where
   five : length r.tallies ≡ 5
-  true-record : RecordTrue limits r
+  true_record : RecordTrue limits r
 
 fresh-sound : (limits : TraceLimits) → Sound limits fresh_record
 unfolding sum
-fresh-sound limits = record { five = refl; true-record = record { tallies-counted = refl; findings-few = omega arith } }
+fresh-sound limits = record { five = refl; true_record = record { tallies_counted = refl; findings_few = omega arith } }
 
 module _ (limits : TraceLimits) (many : limits.events ≤ limits.findings_each) where
   next-sound : (r then : TransientRecord) (t : TraceLists) (old new : FindingLists) (numbers : List ℕ) → Sound limits r → RecordCall limits r t old new numbers then → Sound limits then
@@ -93,7 +93,7 @@ module _ (limits : TraceLimits) (many : limits.events ≤ limits.findings_each) 
     where
       go : (c : Checked) → check_recording limits r t (finding_lengths old) ≡ c → then ≡ record_after c r t → Sound limits then
       go Accepted e q =
-          subst (Sound limits) (sym q) (record { five = record-keeps-tallies r t; true-record = record-after-true limits r t (finding_lengths old) e s.five many })
+          subst (Sound limits) (sym q) (record { five = record-keeps-tallies r t; true_record = record-after-true limits r t (finding_lengths old) e s.five many })
       go (Refused n p) e q = subst (Sound limits) (sym q) s
 
   made-sound : {r : TransientRecord} → Recordings limits r → Sound limits r
@@ -102,7 +102,7 @@ module _ (limits : TraceLimits) (many : limits.events ≤ limits.findings_each) 
 
   -- a record that calls made is never false
   pub never-false : {r : TransientRecord} → Recordings limits r → T (record_false limits r) → ⊥
-  never-false {r} made = true→not-false limits r (made-sound made).true-record
+  never-false {r} made = true→not-false limits r (made-sound made).true_record
 
 -- where a trace may have 4,096 events, as the calls have it
 pub recordings-true : {r : TransientRecord} → Recordings trace_limits r → T (record_false trace_limits r) → ⊥

@@ -98,12 +98,12 @@ findings-fit t = omega (
 
 -- an accepted trace call has room for its findings
 pub trace-room : (limits : TraceLimits) (t : TraceLists) (lengths : List ℕ) → check_trace limits t lengths ≡ Accepted → Fits (length (trace_findings t)) lengths
-trace-room limits t lengths e n k = omega (arith, findings-fit t, (checked→trace limits t lengths e).lists-long n k)
+trace-room limits t lengths e n k = omega (arith, findings-fit t, (checked→trace limits t lengths e).lists_long n k)
 
 -- an accepted recording has room for its findings after those held
 pub recording-room : (limits : TraceLimits) (r : TransientRecord) (t : TraceLists) (lengths : List ℕ) → check_recording limits r t lengths ≡ Accepted
     → Fits (r.findings + length (trace_findings t)) lengths
-recording-room limits r t lengths e n k = omega (arith, findings-fit t, (checked→recording limits r t lengths e).trace-accepted.lists-long n k)
+recording-room limits r t lengths e n k = omega (arith, findings-fit t, (checked→recording limits r t lengths e).trace_accepted.lists_long n k)
 
 -- there are five verdicts
 pub verdict-below : (v : TransientVerdict) → verdict_code v < 5
@@ -148,8 +148,8 @@ module _ (limits : TraceLimits) (r : TransientRecord) (t : TraceLists) (lengths 
       let a = checked→recording limits r t lengths accepted in
       let fs = trace_findings t in
       record {
-        tallies-counted = added-sum r.tallies (tallies fs) five (tallies-length fs) ∙ ap₂ (λ m n. m + n) a.record-true.tallies-counted (tallies-sum fs);
-        findings-few = rw mul-suc (omega (arith, findings-fit t));
+        tallies_counted = added-sum r.tallies (tallies fs) five (tallies-length fs) ∙ ap₂ (λ m n. m + n) a.record_true.tallies_counted (tallies-sum fs);
+        findings_few = rw mul-suc (omega (arith, findings-fit t));
       }
 
   -- so a recording that is accepted leaves a record that is not false; that it was not false before, acceptance says

@@ -18,8 +18,8 @@ pub extreme-agrees : {Bounds : ℕ → ℕ → Type 0} {es : List Edge} {s t : L
 extreme-agrees {Bounds} {n = n} h x =
     record {
       path = x.path;
-      is-path = x.is-path;
-      has-sum = sym (h x.path x.is-path) ∙ x.has-sum;
+      is_path = x.is_path;
+      has_sum = sym (h x.path x.is_path) ∙ x.has_sum;
       bounds = λ p P. subst (Bounds n) (h p P) (x.bounds p P);
     }
 

@@ -64,7 +64,7 @@ module _ (keys row : List ℕ) (key : ℕ) where
     pub searched-at : place < length row → get_or row place 0 < length keys → key_of keys row place ≡ key → Searched keys row key (At (get_or row place 0))
     searched-at h b t = record {
       has_key = λ p e. let same : get_or row place 0 ≡ p = cc in (omega arith, cc);
-      first = λ e. sym (first→position keys key (get_or row place 0) (record { inside = b; has = t; none-earlier = earlier e }));
+      first = λ e. sym (first→position keys key (get_or row place 0) (record { inside = b; has = t; none_earlier = earlier e }));
     }
       where
         earlier : row ≡ ordered keys → (q : ℕ) → q < get_or row place 0 → key_at keys q ≡ key → ⊥
@@ -99,7 +99,7 @@ module _ (keys : List ℕ) where
     pub rising-at : place < length keys → key_at keys place ≡ key → SearchedRising keys key (At place)
     rising-at b t = record {
       has_key = λ p e. let same : place ≡ p = cc in (omega arith, cc);
-      first = λ u. sym (first→position keys key place (record { inside = b; has = t; none-earlier = λ q g e. omega (arith, s.below (rising u) q g) }));
+      first = λ u. sym (first→position keys key place (record { inside = b; has = t; none_earlier = λ q g e. omega (arith, s.below (rising u) q g) }));
     }
 
     pub rising-missing : (place < length keys → key_at keys place ≡ key → ⊥) → SearchedRising keys key Missing

@@ -46,7 +46,7 @@ module _ (l : NodeLists) (marks : List ℕ) (c : ProjectedLists) (w : WorkLists)
   call-refused misfits = record {
     answer = sym misfits;
     done = λ e. let z : ◌≡◌ {A = ℕ} 0 1 = cc in absurd (omega arith);
-    refused = λ e. record { marks-kept = refl; lists-kept = refl; work-kept = refl; nothing = refl };
+    refused = λ e. record { marks_kept = refl; lists_kept = refl; work_kept = refl; nothing = refl };
   }
 
   module _ (fits : projection_fits l marks c w ≡ true) where
@@ -59,17 +59,17 @@ module _ (l : NodeLists) (marks : List ℕ) (c : ProjectedLists) (w : WorkLists)
     abbrev es : List Edge
     es = edges_of l
 
-    pub marks-room : length l.ids ≤ length marks
-    marks-room = f.marked
+    pub marks_room : length l.ids ≤ length marks
+    marks_room = f.marked
 
-    pub next-room : length l.sources ≤ length w.next
-    next-room = f.links
+    pub next_room : length l.sources ≤ length w.next
+    next_room = f.links
 
     pub marks-lent : length (take (length l.ids) marks) ≡ length l.ids
-    marks-lent = length-take-le n marks marks-room
+    marks-lent = length-take-le n marks marks_room
 
     pub next-lent : length (take (length l.sources) w.next) ≡ length l.sources
-    next-lent = length-take-le (length l.sources) w.next next-room
+    next-lent = length-take-le (length l.sources) w.next next_room
 
     once : Distinct l.order
     once = distinct-rising (id_at l.ids) l.order f.rising
@@ -82,8 +82,8 @@ module _ (l : NodeLists) (marks : List ℕ) (c : ProjectedLists) (w : WorkLists)
       links = next-lent;
       counts = omega (arith, f.kinds, f.counts);
       room = f.firsts;
-      sources-below = λ k h. omega (arith, f.kinds, f.sources-below k h);
-      sinks-below = λ k h. omega (arith, f.kinds, f.sinks-below k h);
+      sources_below = λ k h. omega (arith, f.kinds, f.sources_below k h);
+      sinks_below = λ k h. omega (arith, f.kinds, f.sinks_below k h);
       order_below = λ k h. omega (arith, f.kinds, f.order_below k h);
       once = once;
     }
@@ -108,7 +108,7 @@ module _ (l : NodeLists) (marks : List ℕ) (c : ProjectedLists) (w : WorkLists)
       whole_length = length_front marks marks' n (size ∙ sym marks-lent)
 
       pub whole_room : length l.ids ≤ length (marks' ++ drop (length l.ids) marks)
-      whole_room = omega (arith, whole_length, marks-room)
+      whole_room = omega (arith, whole_length, marks_room)
 
       abbrev N : Net
       N = net l.sources l.sinks marks' l.ids l.low l.high l.inverts
@@ -127,8 +127,8 @@ module _ (l : NodeLists) (marks : List ℕ) (c : ProjectedLists) (w : WorkLists)
         highs = f.highs;
         flags = f.flags;
         heads = omega (arith, f.heads, heads);
-        starts = f.sources-below;
-        ends = f.sinks-below;
+        starts = f.sources_below;
+        ends = f.sinks_below;
         one_in = one_in;
         one_out = one_out;
         onward = λ v t. next-linked l.sources l.sinks f.pairs head next R.linked v
@@ -230,7 +230,7 @@ module _ (l : NodeLists) (marks : List ℕ) (c : ProjectedLists) (w : WorkLists)
               listed = rw entries-are at G.written;
               retained = R.retained ∙ rw f.kinds refl;
               projected = number_is ∙ sym (length-map first-edges (λ e. entry_of N (edge_at N e))) ∙ ap length entries-are;
-              path-ids = G.place ∙ ap (λ ps. length (path_ids ps)) entries-are;
+              path_ids = G.place ∙ ap (λ ps. length (path_ids ps)) entries-are;
             };
             refused = λ e. let z : ◌≡◌ {A = ℕ} 0 1 = cc in absurd (omega arith);
           }

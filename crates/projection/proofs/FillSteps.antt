@@ -131,8 +131,8 @@ module _ (N : Net) (fs : List ℕ) (old : ProjectedLists) (R : Fillable N fs old
       start-more : path_starts (entries_from N (take (k + 1) fs)) ≡ path_starts ps ++ (end ∷ [])
       start-more = ap path_starts one_more ∙ starts_more 0 ps (entry first) ∙ ap (λ j. path_starts ps ++ (j ∷ [])) (zero-add (length (path_ids ps)) ∙ sym F.place)
 
-      pub next-room : end + path_length (entry_of N (edge_at N (get_or fs k 0))) ≤ length new.ids
-      next-room = omega (arith, keeps-ids, R.ids, F.place, ap length path-more, length-append (path_ids ps) (entry first).path, split)
+      pub next_room : end + path_length (entry_of N (edge_at N (get_or fs k 0))) ≤ length new.ids
+      next_room = omega (arith, keeps-ids, R.ids, F.place, ap length path-more, length-append (path_ids ps) (entry first).path, split)
         where
           split : length (path_ids (entries_from N fs)) ≡ length (path_ids (entries_from N (take (k + 1) fs))) + length (path_ids (entries_from N (drop (k + 1) fs)))
           split =

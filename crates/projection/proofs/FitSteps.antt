@@ -193,8 +193,8 @@ pub record Fitted (l : NodeLists) (marks : List ℕ) (c : ProjectedLists) (w : W
   pub starts : length l.sources ≤ length c.starts
   pub lengths : length l.sources ≤ length c.lengths
   pub paths : 2 * length l.sources ≤ length c.ids
-  pub sources-below : Below (length l.ids) l.sources
-  pub sinks-below : Below (length l.ids) l.sinks
+  pub sources_below : Below (length l.ids) l.sources
+  pub sinks_below : Below (length l.ids) l.sinks
   pub order_below : Below (length l.ids) l.order
   pub rising : rises (map (id_at l.ids) l.order) ≡ true
 
@@ -248,8 +248,8 @@ module _ (l : NodeLists) (marks : List ℕ) (c : ProjectedLists) (w : WorkLists)
         starts = edges 7 (omega arith);
         lengths = edges 8 (omega arith);
         paths = leb-true _ _ d.1;
-        sources-below = ends-below n l.sources f.1;
-        sinks-below = ends-below n l.sinks g.1;
+        sources_below = ends-below n l.sources f.1;
+        sinks_below = ends-below n l.sinks g.1;
         order_below = ends-below n l.order h.1;
         rising = i.1;
       }
@@ -259,7 +259,7 @@ module _ (l : NodeLists) (marks : List ℕ) (c : ProjectedLists) (w : WorkLists)
   fitting f =
       sym (rising-decides l.ids l.sources l.sinks l.order per-node node-room edge-room (length c.ids)
       f.pairs (sym (is_all n per-node per)) (sym (at-least-all n node-room nodes)) (sym (at-least-all m edge-room edges)) f.paths
-      (sym (ends-all n l.sources f.sources-below)) (sym (ends-all n l.sinks f.sinks-below)) (sym (ends-all n l.order f.order_below))
+      (sym (ends-all n l.sources f.sources_below)) (sym (ends-all n l.sinks f.sinks_below)) (sym (ends-all n l.order f.order_below))
       (rises (map (id_at l.ids) l.order)) refl) ∙ f.rising
     where
       per : (k : ℕ) → k < 4 → get_or per-node k 0 ≡ n

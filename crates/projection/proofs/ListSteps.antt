@@ -123,8 +123,8 @@ module _ (head next marks order old : List ℕ) (L : Listable head next marks or
         unfolding firsts_by keep
         with-chain = one_more ∙ rw (ne_eqb (get_or marks v 1) 0 (λ q. z (sym mark-read ∙ q))) (flat-more (linked head next) (keep kept (take i order)) v)
 
-        pub firsts-room : count + length (linked head next v) ≤ length new
-        firsts-room = omega (arith, firsts-length, w.place, front_fits (i + 1), ap length with-chain, length-append (all (take i order)) (linked head next v))
+        pub firsts_room : count + length (linked head next v) ≤ length new
+        firsts_room = omega (arith, firsts-length, w.place, front_fits (i + 1), ap length with-chain, length-append (all (take i order)) (linked head next v))
 
         pub firsts_more : (new' : List ℕ) (count' : ℕ) → RowWritten (linked head next v) count new new' count' → RowWritten (firsts_by (linked head next) marks (take (i + 1) order)) 0 old new' count'
         firsts_more new' count' u = record {

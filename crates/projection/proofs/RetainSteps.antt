@@ -82,13 +82,13 @@ module _ (sources sinks compressible order marks head next incoming firsts : Lis
   joins = edges_between sources sinks
 
   pub sinks-counted : Below (length incoming) sinks
-  sinks-counted k h = omega (arith, R.sinks-below k h, R.counts)
+  sinks-counted k h = omega (arith, R.sinks_below k h, R.counts)
 
   -- the edges are linked
   module _ (head' next' : List ℕ) (r : Bool) (indexed : EdgesIndexed sources head next head' next' r) (heads : length head' ≡ length head) where
     index : Indexed sources head' next'
     unfolding index_fits
-    index = indexed.indexed (indexed.answer ∙ yes_both _ _ (eq-eqb (length next) (length sources) R.links) (sym (ends-all (length head) sources (λ k h. omega (arith, R.sources-below k h, R.heads)))))
+    index = indexed.indexed (indexed.answer ∙ yes_both _ _ (eq-eqb (length next) (length sources) R.links) (sym (ends-all (length head) sources (λ k h. omega (arith, R.sources_below k h, R.heads)))))
 
     -- and counted
     module _ (incoming' : List ℕ) (counted : EndsCounted sinks incoming') (counts : length incoming' ≡ length incoming) where
@@ -123,7 +123,7 @@ module _ (sources sinks compressible order marks head next incoming firsts : Lis
           arith,
           length-map (flat_map (leaving sources) (keep (λ v. not (through marks' v)) order)) (λ i. get_or sources i 0 ⟶ get_or sinks i 0),
           ap length (leaving-rows sources sinks R.pairs (keep (λ v. not (through marks' v)) order)),
-          firsts-few joins n (edges_between-inside n sources sinks R.sources-below R.sinks-below) (through marks') (through-in sources sinks compressible marks' marks-are) (through-out sources sinks compressible marks' marks-are) order R.once,
+          firsts-few joins n (edges_between-inside n sources sinks R.sources_below R.sinks_below) (through marks') (through-in sources sinks compressible marks' marks-are) (through-out sources sinks compressible marks' marks-are) order R.once,
           edges_between-length sources sinks (sym R.pairs),
         )
 

@@ -57,8 +57,8 @@ pub record Retainable (sources sinks compressible order marks head next incoming
   pub links : length next ≡ length sources
   pub counts : length compressible ≤ length incoming
   pub room : length sources ≤ length firsts
-  pub sources-below : Below (length compressible) sources
-  pub sinks-below : Below (length compressible) sinks
+  pub sources_below : Below (length compressible) sources
+  pub sinks_below : Below (length compressible) sinks
   pub order_below : Below (length compressible) order
   pub once : Distinct order
 

@@ -109,13 +109,13 @@ pub record Projecting (l : NodeLists) (marks marks' : List ℕ) (c c' : Projecte
   pub listed : EntriesWritten c c' (entries_of l)
   pub retained : r.retained ≡ retained_count (edges_of l) l.compressible (length l.ids)
   pub projected : r.projected ≡ length (entries_of l)
-  pub path-ids : r.path_ids ≡ length (path_ids (entries_of l))
+  pub path_ids : r.path_ids ≡ length (path_ids (entries_of l))
 
 -- where they do not: every list keeps its content and the counts are 0
 pub record Refusing (marks marks' : List ℕ) (c c' : ProjectedLists) (w w' : WorkLists) (r : Projected) : Type 0 where
-  pub marks-kept : marks' ≡ marks
-  pub lists-kept : c' ≡ c
-  pub work-kept : w' ≡ w
+  pub marks_kept : marks' ≡ marks
+  pub lists_kept : c' ≡ c
+  pub work_kept : w' ≡ w
   pub nothing : r ≡ record { fits = false; retained = 0; projected = 0; path_ids = 0 }
 
 -- the answer, and what the lists hold after the call. Where the lists fit, what those hold that were lent to work in is open

@@ -17,7 +17,7 @@ use Rattle.reader.specs.Lines.{has_name, FoundLine}
 use Rattle.reader.specs.Readings.{FieldReadAt, SignedFieldReadAt}
 use Rattle.reader.specs.declared.fields.FieldRead.TheVariants as Field
 use Rattle.reader.specs.declared.fields.SignedFieldRead.TheVariants as SignedField
-use Rattle.reader.proofs.NumberSteps.{number_fits, delay-fits}
+use Rattle.reader.proofs.NumberSteps.{number_fits, delay_fits}
 
 module _ {A : Type 0} (text : List ℕ) (at : ℕ) (name : List ℕ) (value : List ℕ → Option A) where
   field-missing : has_name name (drop at text) ≡ false → (line : ℕ) → broken line ≡ field name value (place line (drop at text))
@@ -75,4 +75,4 @@ module _ {text : List ℕ} {at : ℕ} {name : List ℕ} {x next : ℕ} where
   field_fits most r = let v = came_from name (number_up_to most) (place 0 (drop at text)) (place 1 (drop next text)) x (r.reading 0) in number_fits most v.0 x v.1
 
   pub delay-field-fits : FieldReadAt text at name delay_word (Field.Value x next) → x ≤ 256
-  delay-field-fits r = let v = came_from name delay_word (place 0 (drop at text)) (place 1 (drop next text)) x (r.reading 0) in delay-fits v.0 x v.1
+  delay-field-fits r = let v = came_from name delay_word (place 0 (drop at text)) (place 1 (drop next text)) x (r.reading 0) in delay_fits v.0 x v.1

@@ -54,8 +54,8 @@ last-digit most v h = rw (le-leb v most h)
 
 module _ (digits : List ℕ) (most v i : ℕ) where
   module _ (h : i < length digits) where
-    pub stops-below : get_or digits i 0 < 48 → digits_from most v (drop i digits) ≡ none
-    stops-below k = ap (digits_from most v) (drop-cons digits i 0 h) ∙ below-digits most v (get_or digits i 0) (drop (suc i) digits) k
+    pub stops_below : get_or digits i 0 < 48 → digits_from most v (drop i digits) ≡ none
+    stops_below k = ap (digits_from most v) (drop-cons digits i 0 h) ∙ below-digits most v (get_or digits i 0) (drop (suc i) digits) k
 
     pub stops-above : 57 < get_or digits i 0 → digits_from most v (drop i digits) ≡ none
     stops-above k = ap (digits_from most v) (drop-cons digits i 0 h) ∙ above-digits most v (get_or digits i 0) (drop (suc i) digits) k
@@ -141,5 +141,5 @@ pub delay-number : (bs : List ℕ) → is_none bs ≡ false → delay_word bs �
 unfolding delay_word
 delay-number bs e = rw e
 
-pub delay-fits : (bs : List ℕ) (n : ℕ) → some n ≡ delay_word bs → n ≤ 256
-delay-fits bs n e = (delay-text bs n (sym e)).1
+pub delay_fits : (bs : List ℕ) (n : ℕ) → some n ≡ delay_word bs → n ≤ 256
+delay_fits bs n e = (delay-text bs n (sym e)).1

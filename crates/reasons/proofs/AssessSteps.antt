@@ -49,14 +49,14 @@ module _ (ids kinds delays locked starts stops order : List ℕ) (asked : Assess
   pub sums-asked : (settles lows highs unequal : List ℕ) → length ids ≤ length settles → length ids ≤ length lows → length ids ≤ length highs → length ids ≤ length unequal
       → (length delays ≡ length kinds) × Summable (length kinds) starts stops order settles lows highs unequal
   sums-asked settles lows highs unequal a b c e = (
-    asked.delays-length ∙ sym asked.kinds-length,
-    subst (λ n. Summable n starts stops order settles lows highs unequal) (sym asked.kinds-length) (record {
+    asked.delays_length ∙ sym asked.kinds_length,
+    subst (λ n. Summable n starts stops order settles lows highs unequal) (sym asked.kinds_length) (record {
       linked = asked.linked;
       positions = asked.positions;
-      places = omega (arith, asked.order-few);
-      settled-room = a;
-      smallest-room = b;
-      largest-room = c;
+      places = omega (arith, asked.order_few);
+      settled_room = a;
+      smallest_room = b;
+      largest_room = c;
     }),
   )
 
@@ -74,19 +74,19 @@ module _ (ids kinds delays locked starts stops order : List ℕ) (asked : Assess
     -- the positions listed are at the front
     front : take count unequal' ≡ keep (unequal_at es d d) order
     front =
-        ap (take count) sums.unequal-listed ∙ written-front unequal (keep (unequal_at es d d) order) count (sym sums.unequal-counted)
+        ap (take count) sums.unequal_listed ∙ written-front unequal (keep (unequal_at es d d) order) count (sym sums.unequal_counted)
 
     front-most : count ≤ length unequal'
-    front-most = omega (arith, sums.unequal-counted, ap length sums.unequal-listed, written-length unequal (keep (unequal_at es d d) order))
+    front-most = omega (arith, sums.unequal_counted, ap length sums.unequal_listed, written-length unequal (keep (unequal_at es d d) order))
 
     front_length : count ≡ length (take count unequal')
-    front_length = sums.unequal-counted ∙ sym (ap length front)
+    front_length = sums.unequal_counted ∙ sym (ap length front)
 
     listed_below : (v : ℕ) → Memᴰ v (keep (unequal_at es d d) order) → v < length ids
     listed_below v m = let r = mem-at 0 (keep_out (unequal_at es d d) order m).0 in omega (arith, asked.positions r.0 r.1, r.2)
 
     pub unequal-asked : length ids ≤ length lows' → length ids ≤ length highs' → UnequalAsked ids lows' highs' unequal' count
-    unequal-asked a b = record { listed = front-most; positions = position; smallest-room = a; largest-room = b }
+    unequal-asked a b = record { listed = front-most; positions = position; smallest_room = a; largest_room = b }
       where
         position : (k : ℕ) → k < count → get_or unequal' k 0 < length ids
         position k h = listed_below _ (subst (λ m. Memᴰ (get_or unequal' k 0) m) front (Memᴰ.cast (sym (get_or-take count unequal' k 0 h)) (at_mem 0 (take count unequal') k (omega (arith, front_length)))))
@@ -98,12 +98,12 @@ module _ (ids kinds delays locked starts stops order : List ℕ) (asked : Assess
         let some : List ℕ = replicate listed 0 in
         let p = rows some (sym (length-replicate listed 0)) in
         let few : length (feedback_reason some ++ own_reasons ids kinds locked (length ids)) ≤ 1 + length ids = omega (arith, length-append (feedback_reason some) (own_reasons ids kinds locked (length ids)), loop-one some, own-count ids kinds locked (length ids)) in
-        let most : count ≤ length ids = omega (arith, sums.unequal-counted, keep-fewer (unequal_at es d d) order, asked.order-few) in
+        let most : count ≤ length ids = omega (arith, sums.unequal_counted, keep-fewer (unequal_at es d d) order, asked.order_few) in
         room-kept (2 * length ids + 1) (temporal + count) (omega (arith, p.next)) r (rows-kept (2 * length ids + 1) (omega arith) r p.rows)
 
     sum-at : (f : ℕ → ℕ) (old new : List ℕ) → new ≡ written old (map f (indices (length kinds))) → (v : ℕ) → v < length ids → key_at new v ≡ f v
     sum-at f old new e v h =
-        let k : v < length kinds = omega (arith, asked.kinds-length) in
+        let k : v < length kinds = omega (arith, asked.kinds_length) in
         ap (λ l. get_or l v 0) e ∙ written_at old (map f (indices (length kinds))) v 0 (omega (arith, made-length f (length kinds))) ∙ made_at f (length kinds) v 0 k
 
     -- the unequal delays are listed with their sums
@@ -112,7 +112,7 @@ module _ (ids kinds delays locked starts stops order : List ℕ) (asked : Assess
     unequal-rows =
         ap (map (unequal_row ids lows' highs')) front
         ∙ map_same _ (unequal_reason_over l starts stops) (keep (unequal_at es d d) order)
-        (λ v m. ap₂ (unequal_reconvergent_delay (get_or ids v 0)) (sum-at (smallest_sum es d) lows lows' sums.smallest-found v (listed_below v m)) (sum-at (largest_sum es d) highs highs' sums.largest-found v (listed_below v m)))
+        (λ v m. ap₂ (unequal_reconvergent_delay (get_or ids v 0)) (sum-at (smallest_sum es d) lows lows' sums.smallest_found v (listed_below v m)) (sum-at (largest_sum es d) highs highs' sums.largest_found v (listed_below v m)))
 
     all-rows : (feedback_reason (shared_ids ids kinds starts stops) ++ own_reasons ids kinds locked (length ids)) ++ map (unequal_row ids lows' highs') (take count unequal') ≡ reasons_over l starts stops order
     unfolding reasons_over
@@ -131,19 +131,19 @@ module _ (ids kinds delays locked starts stops order : List ℕ) (asked : Assess
       reasons-found =
           let first = firsts (shared_ids ids kinds starts stops) found.1 in
           let r = rows_next (2 * length ids + 1) (omega arith) room first lasts in
-          let n = asked.kinds-length in
-          let marks = rw n at sums.settled-marked in
+          let n = asked.kinds_length in
+          let marks = rw n at sums.settled_marked in
           record {
             fitting = refl;
             rows = subst (λ rs. ReasonsWritten 0 rs reasons reasons'') all-rows r.rows;
-            feedback-ids = found.0;
-            label-settled = flags-written es d (length ids) settles' settles marks;
-            label-lows = sums-written es d (length ids) settles' (smallest_sum es d) low_sum (low-shown es d) settles lows lows' lows'' marks (rw n at sums.smallest-found) low_sums;
-            label-highs = sums-written es d (length ids) settles' (largest_sum es d) high_sum (high-shown es d) settles highs highs' highs'' marks (rw n at sums.largest-found) high_sums;
-            reasons-counted = r.next ∙ zero-add _ ∙ ap length all-rows;
-            feedback-counted = found.1;
-            scope-told = scoped (temporal_over l starts stops) (unequal_over l starts stops order) (first.next ∙ zero-add _ ∙ ap length temporal-rows) (front_length ∙ sym (length-map (take count unequal') (unequal_row ids lows' highs')) ∙ ap length unequal-rows);
-            pattern-told = found.2 ∙ pattern-shared l starts stops n;
+            feedback_ids = found.0;
+            label_settled = flags-written es d (length ids) settles' settles marks;
+            label_lows = sums-written es d (length ids) settles' (smallest_sum es d) low_sum (low-shown es d) settles lows lows' lows'' marks (rw n at sums.smallest_found) low_sums;
+            label_highs = sums-written es d (length ids) settles' (largest_sum es d) high_sum (high-shown es d) settles highs highs' highs'' marks (rw n at sums.largest_found) high_sums;
+            reasons_counted = r.next ∙ zero-add _ ∙ ap length all-rows;
+            feedback_counted = found.1;
+            scope_told = scoped (temporal_over l starts stops) (unequal_over l starts stops order) (first.next ∙ zero-add _ ∙ ap length temporal-rows) (front_length ∙ sym (length-map (take count unequal') (unequal_row ids lows' highs')) ∙ ap length unequal-rows);
+            pattern_told = found.2 ∙ pattern-shared l starts stops n;
           }
 
 -- the call, where the lists fit and where they do not
@@ -158,19 +158,19 @@ module _ (ids kinds delays locked starts stops order : List ℕ) (ks cs bs ls hs
       let t : T r.fits = subst T (sym f.fitting) tt in
       record {
         answer = f.fitting ∙ sym e;
-        reason-kinds = f.rows.kinds-written ∙ sym (chosen _ ks r.fits t);
-        reason-components = f.rows.components-written ∙ sym (chosen _ cs r.fits t);
-        reason-blocks = f.rows.blocks-written ∙ sym (chosen _ bs r.fits t);
-        reason-minimums = f.rows.minimums-written ∙ sym (chosen _ ls r.fits t);
-        reason-maximums = f.rows.maximums-written ∙ sym (chosen _ hs r.fits t);
-        feedback-ids = f.feedback-ids ∙ sym (chosen _ feedback r.fits t);
-        label-settled = f.label-settled ∙ sym (chosen _ settles r.fits t);
-        label-lows = f.label-lows ∙ sym (chosen _ lows r.fits t);
-        label-highs = f.label-highs ∙ sym (chosen _ highs r.fits t);
-        reasons-counted = f.reasons-counted ∙ sym (chosen _ 0 r.fits t);
-        feedback-counted = f.feedback-counted ∙ sym (chosen _ 0 r.fits t);
-        scope-told = f.scope-told ∙ sym (chosen _ SteadyStateSafe r.fits t);
-        pattern-told = f.pattern-told ∙ sym (chosen _ Nothing r.fits t);
+        reason_kinds = f.rows.kinds_written ∙ sym (chosen _ ks r.fits t);
+        reason_components = f.rows.components_written ∙ sym (chosen _ cs r.fits t);
+        reason_blocks = f.rows.blocks_written ∙ sym (chosen _ bs r.fits t);
+        reason_minimums = f.rows.minimums_written ∙ sym (chosen _ ls r.fits t);
+        reason_maximums = f.rows.maximums_written ∙ sym (chosen _ hs r.fits t);
+        feedback_ids = f.feedback_ids ∙ sym (chosen _ feedback r.fits t);
+        label_settled = f.label_settled ∙ sym (chosen _ settles r.fits t);
+        label_lows = f.label_lows ∙ sym (chosen _ lows r.fits t);
+        label_highs = f.label_highs ∙ sym (chosen _ highs r.fits t);
+        reasons_counted = f.reasons_counted ∙ sym (chosen _ 0 r.fits t);
+        feedback_counted = f.feedback_counted ∙ sym (chosen _ 0 r.fits t);
+        scope_told = f.scope_told ∙ sym (chosen _ SteadyStateSafe r.fits t);
+        pattern_told = f.pattern_told ∙ sym (chosen _ Nothing r.fits t);
       }
 
   pub call-misfits : fits ≡ false
@@ -178,17 +178,17 @@ module _ (ids kinds delays locked starts stops order : List ℕ) (ks cs bs ls hs
       (record { fits = false; reasons = 0; feedback = 0; scope = SteadyStateSafe; pattern = Nothing })
   call-misfits e = record {
     answer = sym e;
-    reason-kinds = refl;
-    reason-components = refl;
-    reason-blocks = refl;
-    reason-minimums = refl;
-    reason-maximums = refl;
-    feedback-ids = refl;
-    label-settled = refl;
-    label-lows = refl;
-    label-highs = refl;
-    reasons-counted = refl;
-    feedback-counted = refl;
-    scope-told = refl;
-    pattern-told = refl;
+    reason_kinds = refl;
+    reason_components = refl;
+    reason_blocks = refl;
+    reason_minimums = refl;
+    reason_maximums = refl;
+    feedback_ids = refl;
+    label_settled = refl;
+    label_lows = refl;
+    label_highs = refl;
+    reasons_counted = refl;
+    feedback_counted = refl;
+    scope_told = refl;
+    pattern_told = refl;
   }

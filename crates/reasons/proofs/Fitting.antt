@@ -26,7 +26,7 @@ edges-linked starts stops n h e =
     let a = both_true (eqb (length stops) (length starts)) (leb (length starts) scene_limits.connections) b.0 in
     record {
       pairs = eqb-true _ _ a.0;
-      nodes-few = h;
+      nodes_few = h;
       edges_few = leb-true _ _ a.1;
       inside = edges_between-inside n starts stops (ends-below n starts b.1) (ends-below n stops c.1);
     }
@@ -42,9 +42,9 @@ feedback-fitted starts stops n kinds feedback e =
 
 -- a component for each entry, and not too many
 pub record ComponentsFitted (n kinds delays locked : ℕ) : Type 0 where
-  pub kinds-length : kinds ≡ n
-  pub delays-length : delays ≡ n
-  pub locked-length : locked ≡ n
+  pub kinds_length : kinds ≡ n
+  pub delays_length : delays ≡ n
+  pub locked_length : locked ≡ n
   pub few : n ≤ scene_limits.components
 
 pub components-fitted : (n kinds delays locked : ℕ) → components_fit n kinds delays locked ≡ true → ComponentsFitted n kinds delays locked
@@ -53,21 +53,21 @@ components-fitted n kinds delays locked e =
     let c = both_true _ (leb n scene_limits.components) e in
     let b = both_true _ (eqb locked n) c.0 in
     let a = both_true (eqb kinds n) (eqb delays n) b.0 in
-    record { kinds-length = eqb-true _ _ a.0; delays-length = eqb-true _ _ a.1; locked-length = eqb-true _ _ b.1; few = leb-true _ _ c.1 }
+    record { kinds_length = eqb-true _ _ a.0; delays_length = eqb-true _ _ a.1; locked_length = eqb-true _ _ b.1; few = leb-true _ _ c.1 }
 
 order-fitted : (order : List ℕ) (n : ℕ) → order_fits order n ≡ true → (length order ≤ n) × Below n order
 unfolding order_fits
 order-fitted order n e = let a = both_true (leb (length order) n) (ends_below n order) e in (leb-true _ _ a.0, ends-below n order a.1)
 
-reason-room : (need : ℕ) (kinds components blocks minimums maximums : List ℕ) → reasons_room need (length kinds) (length components) (length blocks) (length minimums) (length maximums) ≡ true
+reason_room : (need : ℕ) (kinds components blocks minimums maximums : List ℕ) → reasons_room need (length kinds) (length components) (length blocks) (length minimums) (length maximums) ≡ true
     → ReasonRoom need (columns kinds components blocks minimums maximums)
 unfolding reasons_room
-reason-room need kinds components blocks minimums maximums e =
+reason_room need kinds components blocks minimums maximums e =
     let d = both_true _ (leb need (length maximums)) e in
     let c = both_true _ (leb need (length minimums)) d.0 in
     let b = both_true _ (leb need (length blocks)) c.0 in
     let a = both_true (leb need (length kinds)) (leb need (length components)) b.0 in
-    record { kind-room = leb-true _ _ a.0; component-room = leb-true _ _ a.1; block_room = leb-true _ _ b.1; minimum-room = leb-true _ _ c.1; maximum-room = leb-true _ _ d.1 }
+    record { kind_room = leb-true _ _ a.0; component_room = leb-true _ _ a.1; block_room = leb-true _ _ b.1; minimum_room = leb-true _ _ c.1; maximum_room = leb-true _ _ d.1 }
 
 -- what all tests say when all pass
 module _ (ids kinds delays locked starts stops order : List ℕ) (reason_kinds reason_components reason_blocks reason_minimums reason_maximums feedback settles lows highs : List ℕ) where
@@ -86,19 +86,19 @@ module _ (ids kinds delays locked starts stops order : List ℕ) (reason_kinds r
       let q = both_true _ (leb n (length lows)) r.0 in
       let p = both_true (leb n (length feedback)) (leb n (length settles)) q.0 in (
         record {
-          kinds-length = f.kinds-length;
-          delays-length = f.delays-length;
-          locked-length = f.locked-length;
+          kinds_length = f.kinds_length;
+          delays_length = f.delays_length;
+          locked_length = f.locked_length;
           linked = edges-linked starts stops n f.few a.1;
-          order-few = o.0;
+          order_few = o.0;
           positions = o.1;
         },
         record {
-          reason-room = reason-room (2 * n + 1) reason_kinds reason_components reason_blocks reason_minimums reason_maximums c.1;
-          feedback-room = leb-true _ _ p.0;
-          settled-room = leb-true _ _ p.1;
-          lows-room = leb-true _ _ q.1;
-          highs-room = leb-true _ _ r.1;
+          reason_room = reason_room (2 * n + 1) reason_kinds reason_components reason_blocks reason_minimums reason_maximums c.1;
+          feedback_room = leb-true _ _ p.0;
+          settled_room = leb-true _ _ p.1;
+          lows_room = leb-true _ _ q.1;
+          highs_room = leb-true _ _ r.1;
         },
       )
 
@@ -117,7 +117,7 @@ pub linked-fits : (starts stops : List ℕ) (n kinds feedback : ℕ) → Linked 
 unfolding feedback_fits
 linked-fits starts stops n kinds feedback l e h =
     let a = eq_test e in
-    let b = le→leb n scene_limits.components l.nodes-few in
+    let b = le→leb n scene_limits.components l.nodes_few in
     let c = le→leb n feedback h in
     let d = linked-edges starts stops n l in
     search tests depth 9
@@ -125,43 +125,43 @@ linked-fits starts stops n kinds feedback l e h =
 room_fits : (need : ℕ) (reasons : Columns) → ReasonRoom need reasons → T (reasons_room need (length reasons.kinds) (length reasons.components) (length reasons.blocks) (length reasons.minimums) (length reasons.maximums))
 unfolding reasons_room
 room_fits need reasons r =
-    let a = le→leb need (length reasons.kinds) r.kind-room in
-    let b = le→leb need (length reasons.components) r.component-room in
+    let a = le→leb need (length reasons.kinds) r.kind_room in
+    let b = le→leb need (length reasons.components) r.component_room in
     let c = le→leb need (length reasons.blocks) r.block_room in
-    let d = le→leb need (length reasons.minimums) r.minimum-room in
-    let e = le→leb need (length reasons.maximums) r.maximum-room in
+    let d = le→leb need (length reasons.minimums) r.minimum_room in
+    let e = le→leb need (length reasons.maximums) r.maximum_room in
     search tests depth 9
 
 module _ (ids kinds delays locked starts stops order : List ℕ) (asked : Assessable ids kinds delays locked starts stops order) where
-  components-fit : T (components_fit (length ids) (length kinds) (length delays) (length locked))
+  components_fit_lem : T (components_fit (length ids) (length kinds) (length delays) (length locked))
   unfolding components_fit
-  components-fit =
-      let a = eq_test asked.kinds-length in
-      let b = eq_test asked.delays-length in
-      let c = eq_test asked.locked-length in
-      let d = le→leb (length ids) scene_limits.components asked.linked.nodes-few in
+  components_fit_lem =
+      let a = eq_test asked.kinds_length in
+      let b = eq_test asked.delays_length in
+      let c = eq_test asked.locked_length in
+      let d = le→leb (length ids) scene_limits.components asked.linked.nodes_few in
       search tests depth 9
 
-  order-fits : T (order_fits order (length ids))
+  order_fits_lem : T (order_fits order (length ids))
   unfolding order_fits
-  order-fits = let a = le→leb (length order) (length ids) asked.order-few in let b = subst T (ends-all (length ids) order asked.positions) tt in search tests depth 9
+  order_fits_lem = let a = le→leb (length order) (length ids) asked.order_few in let b = subst T (ends-all (length ids) order asked.positions) tt in search tests depth 9
 
   module _ (reasons : Columns) (feedback settles lows highs : List ℕ) (room : OutputRoom (length ids) reasons feedback settles lows highs) where
     labels-fit : T (labels_room (length ids) (length feedback) (length settles) (length lows) (length highs))
     unfolding labels_room
     labels-fit =
-        let a = le→leb (length ids) (length feedback) room.feedback-room in
-        let b = le→leb (length ids) (length settles) room.settled-room in
-        let c = le→leb (length ids) (length lows) room.lows-room in
-        let d = le→leb (length ids) (length highs) room.highs-room in
+        let a = le→leb (length ids) (length feedback) room.feedback_room in
+        let b = le→leb (length ids) (length settles) room.settled_room in
+        let c = le→leb (length ids) (length lows) room.lows_room in
+        let d = le→leb (length ids) (length highs) room.highs_room in
         search tests depth 9
 
     pub assessable-fits : T (reasons_fit starts stops order (length ids) (length kinds) (length delays) (length locked) (length reasons.kinds) (length reasons.components) (length reasons.blocks) (length reasons.minimums) (length reasons.maximums) (length feedback) (length settles) (length lows) (length highs))
     unfolding reasons_fit
     assessable-fits =
-        let a = components-fit in
+        let a = components_fit_lem in
         let b = linked-edges starts stops (length ids) asked.linked in
-        let c = order-fits in
-        let d = room_fits (2 * length ids + 1) reasons room.reason-room in
+        let c = order_fits_lem in
+        let d = room_fits (2 * length ids + 1) reasons room.reason_room in
         let e = labels-fit in
         search tests depth 9

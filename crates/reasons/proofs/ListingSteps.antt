@@ -64,7 +64,7 @@ module _ (starts stops : List ℕ) (n : ℕ) (linked : Linked starts stops n) wh
   unfolding graph_fits
   linked-fits =
       let a = eq_test linked.pairs in
-      let b = le→leb n scene_limits.components linked.nodes-few in
+      let b = le→leb n scene_limits.components linked.nodes_few in
       let c = le→leb (length starts) scene_limits.connections linked.edges_few in
       let d = subst T (ends-all n starts (inside-sources n starts stops (sym linked.pairs) linked.inside)) tt in
       let e = subst T (ends-all n stops (inside-sinks n starts stops (sym linked.pairs) linked.inside)) tt in

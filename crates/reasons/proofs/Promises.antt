@@ -35,18 +35,18 @@ module _ {l : ComponentLists} {starts stops order ks cs bs ls hs feedback settle
       record {
         fitting = fitted-true r.fits f;
         rows = record {
-          kinds-written = p.reason-kinds ∙ chosen _ _ r.fits f;
-          components-written = p.reason-components ∙ chosen _ _ r.fits f;
-          blocks-written = p.reason-blocks ∙ chosen _ _ r.fits f;
-          minimums-written = p.reason-minimums ∙ chosen _ _ r.fits f;
-          maximums-written = p.reason-maximums ∙ chosen _ _ r.fits f;
+          kinds_written = p.reason_kinds ∙ chosen _ _ r.fits f;
+          components_written = p.reason_components ∙ chosen _ _ r.fits f;
+          blocks_written = p.reason_blocks ∙ chosen _ _ r.fits f;
+          minimums_written = p.reason_minimums ∙ chosen _ _ r.fits f;
+          maximums_written = p.reason_maximums ∙ chosen _ _ r.fits f;
         };
-        feedback-ids = p.feedback-ids ∙ chosen _ _ r.fits f;
-        label-settled = p.label-settled ∙ chosen _ _ r.fits f;
-        label-lows = p.label-lows ∙ chosen _ _ r.fits f;
-        label-highs = p.label-highs ∙ chosen _ _ r.fits f;
-        reasons-counted = p.reasons-counted ∙ chosen _ _ r.fits f;
-        feedback-counted = p.feedback-counted ∙ chosen _ _ r.fits f;
-        scope-told = p.scope-told ∙ chosen _ _ r.fits f;
-        pattern-told = p.pattern-told ∙ chosen _ _ r.fits f;
+        feedback_ids = p.feedback_ids ∙ chosen _ _ r.fits f;
+        label_settled = p.label_settled ∙ chosen _ _ r.fits f;
+        label_lows = p.label_lows ∙ chosen _ _ r.fits f;
+        label_highs = p.label_highs ∙ chosen _ _ r.fits f;
+        reasons_counted = p.reasons_counted ∙ chosen _ _ r.fits f;
+        feedback_counted = p.feedback_counted ∙ chosen _ _ r.fits f;
+        scope_told = p.scope_told ∙ chosen _ _ r.fits f;
+        pattern_told = p.pattern_told ∙ chosen _ _ r.fits f;
       }

@@ -37,29 +37,29 @@ column-then field start mid xs ys old now next e h p q =
 -- they keep their lengths
 pub record ColumnsKept (old new : Columns) : Type 0 where
   pub kinds_kept : length new.kinds ≡ length old.kinds
-  pub components-kept : length new.components ≡ length old.components
-  pub blocks-kept : length new.blocks ≡ length old.blocks
-  pub minimums-kept : length new.minimums ≡ length old.minimums
-  pub maximums-kept : length new.maximums ≡ length old.maximums
+  pub components_kept : length new.components ≡ length old.components
+  pub blocks_kept : length new.blocks ≡ length old.blocks
+  pub minimums_kept : length new.minimums ≡ length old.minimums
+  pub maximums_kept : length new.maximums ≡ length old.maximums
 
 -- room for fewer
 pub room-less : {old : Columns} (n m : ℕ) → m ≤ n → ReasonRoom n old → ReasonRoom m old
 room-less n m h r = record {
-  kind-room = omega (arith, r.kind-room);
-  component-room = omega (arith, r.component-room);
+  kind_room = omega (arith, r.kind_room);
+  component_room = omega (arith, r.component_room);
   block_room = omega (arith, r.block_room);
-  minimum-room = omega (arith, r.minimum-room);
-  maximum-room = omega (arith, r.maximum-room);
+  minimum_room = omega (arith, r.minimum_room);
+  maximum_room = omega (arith, r.maximum_room);
 }
 
 -- nothing is written yet
 pub rows_none : (start : ℕ) (old : Columns) → ReasonsWritten start [] old old
 rows_none start old = record {
-  kinds-written = sym (from-none old.kinds start);
-  components-written = sym (from-none old.components start);
-  blocks-written = sym (from-none old.blocks start);
-  minimums-written = sym (from-none old.minimums start);
-  maximums-written = sym (from-none old.maximums start);
+  kinds_written = sym (from-none old.kinds start);
+  components_written = sym (from-none old.components start);
+  blocks_written = sym (from-none old.blocks start);
+  minimums_written = sym (from-none old.minimums start);
+  maximums_written = sym (from-none old.maximums start);
 }
 
 module _ {old new : Columns} {rs : List Reason} (at : ℕ) {kind component block minimum maximum r : ℕ} where
@@ -67,11 +67,11 @@ module _ {old new : Columns} {rs : List Reason} (at : ℕ) {kind component block
       → ReasonPut at true kind component block minimum maximum old new r → ReasonsListed at rs old new r
   put_one x e k c b l h m p = rw e (record {
     rows = record {
-      kinds-written = p.kind-put ∙ put_written old.kinds at kind (reason_kind x) k m.kind-room;
-      components-written = p.component-put ∙ put_written old.components at component (reason_component x) c m.component-room;
-      blocks-written = p.block-put ∙ put_written old.blocks at block (reason_block x) b m.block_room;
-      minimums-written = p.minimum-put ∙ put_written old.minimums at minimum (reason_minimum x) l m.minimum-room;
-      maximums-written = p.maximum-put ∙ put_written old.maximums at maximum (reason_maximum x) h m.maximum-room;
+      kinds_written = p.kind_put ∙ put_written old.kinds at kind (reason_kind x) k m.kind_room;
+      components_written = p.component_put ∙ put_written old.components at component (reason_component x) c m.component_room;
+      blocks_written = p.block_put ∙ put_written old.blocks at block (reason_block x) b m.block_room;
+      minimums_written = p.minimum_put ∙ put_written old.minimums at minimum (reason_minimum x) l m.minimum_room;
+      maximums_written = p.maximum_put ∙ put_written old.maximums at maximum (reason_maximum x) h m.maximum_room;
     };
     next = p.next;
   })
@@ -79,11 +79,11 @@ module _ {old new : Columns} {rs : List Reason} (at : ℕ) {kind component block
   put-none : rs ≡ [] → ReasonPut at false kind component block minimum maximum old new r → ReasonsListed at rs old new r
   put-none e p = rw e (record {
     rows = record {
-      kinds-written = p.kind-put ∙ sym (from-none old.kinds at);
-      components-written = p.component-put ∙ sym (from-none old.components at);
-      blocks-written = p.block-put ∙ sym (from-none old.blocks at);
-      minimums-written = p.minimum-put ∙ sym (from-none old.minimums at);
-      maximums-written = p.maximum-put ∙ sym (from-none old.maximums at);
+      kinds_written = p.kind_put ∙ sym (from-none old.kinds at);
+      components_written = p.component_put ∙ sym (from-none old.components at);
+      blocks_written = p.block_put ∙ sym (from-none old.blocks at);
+      minimums_written = p.minimum_put ∙ sym (from-none old.minimums at);
+      maximums_written = p.maximum_put ∙ sym (from-none old.maximums at);
     };
     next = p.next ∙ sym (add-zero at);
   })
@@ -97,31 +97,31 @@ module _ {old new : Columns} {rs : List Reason} (at : ℕ) {kind component block
 module _ {old new : Columns} where
   pub rows-kept : {start : ℕ} {rs : List Reason} (n : ℕ) → start + length rs ≤ n → ReasonRoom n old → ReasonsWritten start rs old new → ColumnsKept old new
   rows-kept {start} {rs} n h m w = record {
-    kinds_kept = ap length w.kinds-written ∙ from-length old.kinds (map reason_kind rs) start (omega (arith, length-map rs reason_kind, m.kind-room));
-    components-kept = ap length w.components-written ∙ from-length old.components (map reason_component rs) start (omega (arith, length-map rs reason_component, m.component-room));
-    blocks-kept = ap length w.blocks-written ∙ from-length old.blocks (map reason_block rs) start (omega (arith, length-map rs reason_block, m.block_room));
-    minimums-kept = ap length w.minimums-written ∙ from-length old.minimums (map reason_minimum rs) start (omega (arith, length-map rs reason_minimum, m.minimum-room));
-    maximums-kept = ap length w.maximums-written ∙ from-length old.maximums (map reason_maximum rs) start (omega (arith, length-map rs reason_maximum, m.maximum-room));
+    kinds_kept = ap length w.kinds_written ∙ from-length old.kinds (map reason_kind rs) start (omega (arith, length-map rs reason_kind, m.kind_room));
+    components_kept = ap length w.components_written ∙ from-length old.components (map reason_component rs) start (omega (arith, length-map rs reason_component, m.component_room));
+    blocks_kept = ap length w.blocks_written ∙ from-length old.blocks (map reason_block rs) start (omega (arith, length-map rs reason_block, m.block_room));
+    minimums_kept = ap length w.minimums_written ∙ from-length old.minimums (map reason_minimum rs) start (omega (arith, length-map rs reason_minimum, m.minimum_room));
+    maximums_kept = ap length w.maximums_written ∙ from-length old.maximums (map reason_maximum rs) start (omega (arith, length-map rs reason_maximum, m.maximum_room));
   }
 
   pub room-kept : (n m : ℕ) → m ≤ n → ReasonRoom n old → ColumnsKept old new → ReasonRoom m new
   room-kept n m h r e = record {
-    kind-room = omega (arith, r.kind-room, e.kinds_kept);
-    component-room = omega (arith, r.component-room, e.components-kept);
-    block_room = omega (arith, r.block_room, e.blocks-kept);
-    minimum-room = omega (arith, r.minimum-room, e.minimums-kept);
-    maximum-room = omega (arith, r.maximum-room, e.maximums-kept);
+    kind_room = omega (arith, r.kind_room, e.kinds_kept);
+    component_room = omega (arith, r.component_room, e.components_kept);
+    block_room = omega (arith, r.block_room, e.blocks_kept);
+    minimum_room = omega (arith, r.minimum_room, e.minimums_kept);
+    maximum_room = omega (arith, r.maximum_room, e.maximums_kept);
   }
 
 -- more reasons follow
 pub rows_then : {old now next : Columns} {start mid : ℕ} {xs ys : List Reason} (n : ℕ) → mid ≡ start + length xs → start ≤ n → ReasonRoom n old
     → ReasonsWritten start xs old now → ReasonsWritten mid ys now next → ReasonsWritten start (xs ++ ys) old next
 rows_then {old} {now} {next} {start} {mid} {xs} {ys} n e h m v w = record {
-  kinds-written = column-then reason_kind start mid xs ys old.kinds now.kinds next.kinds e (omega (arith, m.kind-room)) v.kinds-written w.kinds-written;
-  components-written = column-then reason_component start mid xs ys old.components now.components next.components e (omega (arith, m.component-room)) v.components-written w.components-written;
-  blocks-written = column-then reason_block start mid xs ys old.blocks now.blocks next.blocks e (omega (arith, m.block_room)) v.blocks-written w.blocks-written;
-  minimums-written = column-then reason_minimum start mid xs ys old.minimums now.minimums next.minimums e (omega (arith, m.minimum-room)) v.minimums-written w.minimums-written;
-  maximums-written = column-then reason_maximum start mid xs ys old.maximums now.maximums next.maximums e (omega (arith, m.maximum-room)) v.maximums-written w.maximums-written;
+  kinds_written = column-then reason_kind start mid xs ys old.kinds now.kinds next.kinds e (omega (arith, m.kind_room)) v.kinds_written w.kinds_written;
+  components_written = column-then reason_component start mid xs ys old.components now.components next.components e (omega (arith, m.component_room)) v.components_written w.components_written;
+  blocks_written = column-then reason_block start mid xs ys old.blocks now.blocks next.blocks e (omega (arith, m.block_room)) v.blocks_written w.blocks_written;
+  minimums_written = column-then reason_minimum start mid xs ys old.minimums now.minimums next.minimums e (omega (arith, m.minimum_room)) v.minimums_written w.minimums_written;
+  maximums_written = column-then reason_maximum start mid xs ys old.maximums now.maximums next.maximums e (omega (arith, m.maximum_room)) v.maximums_written w.maximums_written;
 }
 
 pub rows_next : {old now next : Columns} {start mid end : ℕ} {xs ys : List Reason} (n : ℕ) → start ≤ n → ReasonRoom n old → ReasonsListed start xs old now mid → ReasonsListed mid ys now next end

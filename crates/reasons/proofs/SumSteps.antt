@@ -87,8 +87,8 @@ module _ (n : ℕ) (starts stops order settles smallest largest unequal : List �
       let edges : Between starts stops n = record { pairs = l.pairs; low = inside-sources n starts stops (sym l.pairs) l.inside; high = inside-sinks n starts stops (sym l.pairs) l.inside } in
       →fits record {
         given = record { edges = edges; delays = refl; positions = asked.positions };
-        answers = record { marks = asked.settled-room; smallests = asked.smallest-room; largests = asked.largest-room; room = asked.places };
-        work = record { heads = l.nodes-few; links = l.edges_few; incomings = l.nodes-few; lefts = l.nodes-few; places = l.nodes-few };
+        answers = record { marks = asked.settled_room; smallests = asked.smallest_room; largests = asked.largest_room; room = asked.places };
+        work = record { heads = l.nodes_few; links = l.edges_few; incomings = l.nodes_few; lefts = l.nodes_few; places = l.nodes_few };
       }
 
 module _ (delays : List ℕ) (n : ℕ) (size : length delays ≡ n) (starts stops order settles smallest largest unequal : List ℕ) (asked : Summable n starts stops order settles smallest largest unequal) where
@@ -100,11 +100,11 @@ module _ (delays : List ℕ) (n : ℕ) (size : length delays ≡ n) (starts stop
   sums-found {r} h i j k l p =
       let t : T r.fits = subst T (sym (rw (h, i, j, k, l, size) at p.answer ∙ sums-fit n starts stops order settles smallest largest unequal asked)) tt in
       rw (← size) (record {
-        settled-marked = p.settles ∙ chosen _ _ r.fits t;
-        smallest-found = p.smallests ∙ chosen _ _ r.fits t;
-        largest-found = p.largests ∙ chosen _ _ r.fits t;
-        unequal-listed = p.lists ∙ chosen _ _ r.fits t;
-        unequal-counted = p.counts ∙ chosen _ _ r.fits t;
+        settled_marked = p.settles ∙ chosen _ _ r.fits t;
+        smallest_found = p.smallests ∙ chosen _ _ r.fits t;
+        largest_found = p.largests ∙ chosen _ _ r.fits t;
+        unequal_listed = p.lists ∙ chosen _ _ r.fits t;
+        unequal_counted = p.counts ∙ chosen _ _ r.fits t;
       })
 
 -- Sums set to 0 one by one where a component is not settled

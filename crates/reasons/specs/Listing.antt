@@ -27,13 +27,13 @@ shared_ids ids kinds starts stops = listed_ids ids kinds (shared_marks (edges_be
 
 -- a kind for each component, and room for its mark and its id
 pub record Marked (ids kinds marks feedback : List ℕ) : Type 0 where
-  pub kinds-length : length kinds ≡ length ids
-  pub marks-room : length ids ≤ length marks
+  pub kinds_length : length kinds ≡ length ids
+  pub marks_room : length ids ≤ length marks
   pub room : length ids ≤ length feedback
 
 -- edges between positions below n, within the limits of a scene
 pub record Linked (starts stops : List ℕ) (n : ℕ) : Type 0 where
   pub pairs : length stops ≡ length starts
-  pub nodes-few : n ≤ scene_limits.components
+  pub nodes_few : n ≤ scene_limits.components
   pub edges_few : length starts ≤ scene_limits.connections
   pub inside : Inside n (edges_between starts stops)

@@ -20,11 +20,11 @@ columns ks cs bs ls hs = record { kinds = ks; components = cs; blocks = bs; mini
 
 -- each column has room for n entries at least
 pub record ReasonRoom (n : ℕ) (old : Columns) : Type 0 where
-  pub kind-room : n ≤ length old.kinds
-  pub component-room : n ≤ length old.components
+  pub kind_room : n ≤ length old.kinds
+  pub component_room : n ≤ length old.components
   pub block_room : n ≤ length old.blocks
-  pub minimum-room : n ≤ length old.minimums
-  pub maximum-room : n ≤ length old.maximums
+  pub minimum_room : n ≤ length old.minimums
+  pub maximum_room : n ≤ length old.maximums
 
 -- the reasons are one, with these fields, where it stands, and none where it does not
 pub record OneReason (rs : List Reason) (stands : Bool) (kind component block minimum maximum : ℕ) : Type 0 where
@@ -33,20 +33,20 @@ pub record OneReason (rs : List Reason) (stands : Bool) (kind component block mi
 
 -- an entry is put in a place of the columns, where it stands; r is the next place
 pub record ReasonPut (at : ℕ) (stands : Bool) (kind component block minimum maximum : ℕ) (old new : Columns) (r : ℕ) : Type 0 where
-  pub kind-put : new.kinds ≡ cond stands (set old.kinds at kind) old.kinds
-  pub component-put : new.components ≡ cond stands (set old.components at component) old.components
-  pub block-put : new.blocks ≡ cond stands (set old.blocks at block) old.blocks
-  pub minimum-put : new.minimums ≡ cond stands (set old.minimums at minimum) old.minimums
-  pub maximum-put : new.maximums ≡ cond stands (set old.maximums at maximum) old.maximums
+  pub kind_put : new.kinds ≡ cond stands (set old.kinds at kind) old.kinds
+  pub component_put : new.components ≡ cond stands (set old.components at component) old.components
+  pub block_put : new.blocks ≡ cond stands (set old.blocks at block) old.blocks
+  pub minimum_put : new.minimums ≡ cond stands (set old.minimums at minimum) old.minimums
+  pub maximum_put : new.maximums ≡ cond stands (set old.maximums at maximum) old.maximums
   pub next : r ≡ cond stands (at + 1) at
 
 -- reasons are written to the columns from a place on
 pub record ReasonsWritten (start : ℕ) (rs : List Reason) (old new : Columns) : Type 0 where
-  pub kinds-written : new.kinds ≡ written_from start old.kinds (map reason_kind rs)
-  pub components-written : new.components ≡ written_from start old.components (map reason_component rs)
-  pub blocks-written : new.blocks ≡ written_from start old.blocks (map reason_block rs)
-  pub minimums-written : new.minimums ≡ written_from start old.minimums (map reason_minimum rs)
-  pub maximums-written : new.maximums ≡ written_from start old.maximums (map reason_maximum rs)
+  pub kinds_written : new.kinds ≡ written_from start old.kinds (map reason_kind rs)
+  pub components_written : new.components ≡ written_from start old.components (map reason_component rs)
+  pub blocks_written : new.blocks ≡ written_from start old.blocks (map reason_block rs)
+  pub minimums_written : new.minimums ≡ written_from start old.minimums (map reason_minimum rs)
+  pub maximums_written : new.maximums ≡ written_from start old.maximums (map reason_maximum rs)
 
 -- and counted; r is the next place
 pub record ReasonsListed (start : ℕ) (rs : List Reason) (old new : Columns) (r : ℕ) : Type 0 where
@@ -69,5 +69,5 @@ unequal_row ids smallest largest i = unequal_reconvergent_delay (id_at ids i) (k
 pub record UnequalAsked (ids smallest largest unequal : List ℕ) (count : ℕ) : Type 0 where
   pub listed : count ≤ length unequal
   pub positions : (k : ℕ) → k < count → get_or unequal k 0 < length ids
-  pub smallest-room : length ids ≤ length smallest
-  pub largest-room : length ids ≤ length largest
+  pub smallest_room : length ids ≤ length smallest
+  pub largest_room : length ids ≤ length largest

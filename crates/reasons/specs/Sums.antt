@@ -13,17 +13,17 @@ pub record Summable (n : ℕ) (starts stops order settles smallest largest unequ
   pub linked : Linked starts stops n
   pub positions : Below n order
   pub places : length order ≤ length unequal
-  pub settled-room : n ≤ length settles
-  pub smallest-room : n ≤ length smallest
-  pub largest-room : n ≤ length largest
+  pub settled_room : n ≤ length settles
+  pub smallest_room : n ≤ length smallest
+  pub largest_room : n ≤ length largest
 
 -- what is found of n components by their delays
 pub record PathsSummed (es : List Edge) (d : ℕ → ℕ) (n : ℕ) (order settles smallest largest unequal settles' smallest' largest' unequal' : List ℕ) (r : ℕ) : Type 0 where
-  pub settled-marked : settles' ≡ written settles (map (λ v. cond (settled es v) 1 0) (indices n))
-  pub smallest-found : smallest' ≡ written smallest (map (smallest_sum es d) (indices n))
-  pub largest-found : largest' ≡ written largest (map (largest_sum es d) (indices n))
-  pub unequal-listed : unequal' ≡ written unequal (keep (unequal_at es d d) order)
-  pub unequal-counted : r ≡ length (keep (unequal_at es d d) order)
+  pub settled_marked : settles' ≡ written settles (map (λ v. cond (settled es v) 1 0) (indices n))
+  pub smallest_found : smallest' ≡ written smallest (map (smallest_sum es d) (indices n))
+  pub largest_found : largest' ≡ written largest (map (largest_sum es d) (indices n))
+  pub unequal_listed : unequal' ≡ written unequal (keep (unequal_at es d d) order)
+  pub unequal_counted : r ≡ length (keep (unequal_at es d d) order)
 
 -- a sum, or 0 where the component is not settled
 abbrev pub cleared_sum : (settles sums : List ℕ) → ℕ → ℕ

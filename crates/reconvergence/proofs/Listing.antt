@@ -1,7 +1,7 @@
 -- Marks and positions, listed step by step. Assumes nothing.
-use mathlib.Core.Path.{◌≡◌, refl, ap, ◌∙◌}
+use mathlib.Core.Path.{◌≡◌, refl, sym, ap, ◌∙◌}
 use mathlib.Core.Bool.{Bool, true, false, not, cond}
-use mathlib.Core.List.{List, [], ◌∷◌, ◌++◌}
+use mathlib.Core.List.{List, [], ◌∷◌, ◌++◌, append-nil}
 use Prim.Native.Nat.{ℕ, ◌+◌, ◌<◌, ◌≤◌}
 use native.Mathlib.Omega.{arith}
 use native.Mathlib.Numerals.{add-one}
@@ -54,8 +54,10 @@ module _ (f : ℕ → Bool) (order old : List ℕ) where
       pub listed-yes : length order ≤ length old → f (key_at order i) ≡ true → ListedTo (set unequal c (key_at order i)) (c + 1) (i + 1)
       listed-yes room e = kept_more passing old i c unequal (key_at order i) (omega arith) was true (next true e)
 
-      pub listed-no : length order ≤ length old → f (key_at order i) ≡ false → ListedTo unequal c (i + 1)
-      listed-no room e = kept_more passing old i c unequal (key_at order i) (omega arith) was false (next false e)
+      pub listed-no : f (key_at order i) ≡ false → ListedTo unequal c (i + 1)
+      listed-no e =
+          let none : passing (i + 1) ≡ passing i = next false e ∙ append-nil (passing i) in
+          record { content = was.content ∙ ap (written old) (sym none); counted = was.counted ∙ ap length (sym none); few = omega (arith, was.few); size = was.size }
 
     pub listed-all : length order ≤ i → (unequal ≡ written old (keep f order)) × (c ≡ length (keep f order))
     listed-all h = let e : take i order ≡ order = take_all i order h in (was.content ∙ ap (λ l. written old (keep f l)) e, was.counted ∙ ap (λ l. length (keep f l)) e)

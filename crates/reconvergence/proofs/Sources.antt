@@ -66,7 +66,7 @@ module _ (es passed : List Edge) (us : List ℕ) (taken : (p : Edge → Bool) �
         go : (e : Edge) → Memᴰ e passed × T (ends_at v e) → brought f es d e ≡ y → (z : ℕ) × Memᴰ z (map (through C es d) (settled_sources es v)) × C.Good z y
         go (a ⟶ b) k q =
             let r = passed-out a v (Memᴰ.cast (ap (λ w. a ⟶ w) (sym (eqb→eq b v k.1))) k.0) in
-            (through C es d a, Memᴰ.map (through C es d) (source_in es r.0 (proper a r.1)), subst (C.Good (through C es d a)) q (C.good-refl _))
+            (through C es d a, Memᴰ.map (through C es d) (source_in es r.0 (proper a r.1)), subst (C.Good (through C es d a)) q (C.good_refl _))
 
     above : Under C (map (through C es d) (settled_sources es v)) (map (brought f es d) (keep (ends_at v) passed))
     unfolding brought through
@@ -74,7 +74,7 @@ module _ (es passed : List Edge) (us : List ℕ) (taken : (p : Edge → Bool) �
         let r = Memᴰ.of_map (through C es d) (settled_sources es v) m in
         let s = source-out es r.1 in
         let k = passed-in r.0 v s.0 (all r.0 s.0 s.1) in
-        (brought f es d (r.0 ⟶ v), Memᴰ.map (brought f es d) (keep-in (ends_at v) k (eqb_refl v)), subst (C.Good (brought f es d (r.0 ⟶ v))) r.2 (C.good-refl _))
+        (brought f es d (r.0 ⟶ v), Memᴰ.map (brought f es d) (keep-in (ends_at v) k (eqb_refl v)), subst (C.Good (brought f es d (r.0 ⟶ v))) r.2 (C.good_refl _))
 
     pub sums : sum_over f es d passed v ≡ extreme_sum f es d v
     unfolding sum_over extreme

@@ -84,8 +84,8 @@ module _ (r : TransientRecord) (t : TraceLists) (old : FindingLists) where
       unfolding check_recording record_tests
       full-record h = more (test (record_false trace_limits r) 15 0) _ (flag-clear told is_true) (stop (leb 64 r.traces) _ (le→leb 64 r.traces h))
 
-      pub true-record : RecordTrue trace_limits r
-      true-record = not-false→true trace_limits r (flag-clear told is_true)
+      pub true_record : RecordTrue trace_limits r
+      true_record = not-false→true trace_limits r (flag-clear told is_true)
 
       module _ (open-record : r.traces < 64) where
         then-traced : {v : Checked} → v ≡ traced → v ≡ checked
@@ -94,7 +94,7 @@ module _ (r : TransientRecord) (t : TraceLists) (old : FindingLists) where
             more (test (record_false trace_limits r) 15 0) _ (flag-clear told is_true) (more (test (leb 64 r.traces) 13 0) _ (λ s. omega (arith, leb→le 64 r.traces s)) e)
 
         pub findings-small : r.findings ≤ 4096 * 63
-        findings-small = omega (arith, true-record.findings-few)
+        findings-small = omega (arith, true_record.findings_few)
 
         module _ {new : FindingLists} {a : TransientAssessment} (call : TraceCallFrom trace_limits r.findings t old new a) where
           answered : a.answer ≡ transient_answer traced t
@@ -120,11 +120,11 @@ module _ (r : TransientRecord) (t : TraceLists) (old : FindingLists) where
             tallied = ap (λ x. x.tallies) assessed-by
 
             pub few-found : f ≤ 4096
-            few-found = omega (arith, found, findings-fit t, (accepted→trace trace_limits t _ _ was-accepted).events-few)
+            few-found = omega (arith, found, findings-fit t, (accepted→trace trace_limits t _ _ was-accepted).events_few)
 
             pub sums-fit : Addable r.tallies a.tallies
             sums-fit k h =
-                omega (arith, entry-small r.tallies k, true-record.tallies-counted, findings-small, entry-small a.tallies k, ap sum tallied, tallies-sum (trace_findings t), found, few-found)
+                omega (arith, entry-small r.tallies k, true_record.tallies_counted, findings-small, entry-small a.tallies k, ap sum tallied, tallies-sum (trace_findings t), found, few-found)
 
             pub trace-recorded : {then : TransientRecord} → then ≡ record { traces = suc r.traces; findings = r.findings + f; tallies = add_tallies r.tallies a.tallies }
                 → RecordCall trace_limits r t old new (0 ∷ 0 ∷ f ∷ c ∷ []) then

@@ -38,14 +38,14 @@ module _ (limits : SceneLimits) (l : ComponentLists) (m : ConnectionLists) where
   assess→feedback l3 l4 l5 l6 l7 l8 e =
       let a = accepted→ limits l m _ e in
       →accepted limits l m _ record {
-        components-aligned = a.components-aligned;
-        connections-aligned = a.connections-aligned;
-        components-few = a.components-few;
-        connections-few = a.connections-few;
-        outputs-long = λ o k. ⊎_elim (λ q. subst OutputLong (sym q) (a.outputs-long fourth (Memᴰ.tail (Memᴰ.head refl)))) (λ n. absurd (Memᴰ.not-nil n)) (Memᴰ.cases_cons {b = fourth} {l = []} k);
-        components-fit = a.components-fit;
-        ids-distinct = a.ids-distinct;
-        connections-fit = a.connections-fit;
+        components_aligned = a.components_aligned;
+        connections_aligned = a.connections_aligned;
+        components_few = a.components_few;
+        connections_few = a.connections_few;
+        outputs_long = λ o k. ⊎_elim (λ q. subst OutputLong (sym q) (a.outputs_long fourth (Memᴰ.tail (Memᴰ.head refl)))) (λ n. absurd (Memᴰ.not-nil n)) (Memᴰ.cases_cons {b = fourth} {l = []} k);
+        components_fit = a.components_fit;
+        ids_distinct = a.ids_distinct;
+        connections_fit = a.connections_fit;
       }
     where
       fourth : Output

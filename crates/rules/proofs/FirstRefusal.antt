@@ -139,9 +139,9 @@ pub record FirstHolds (ts : List Test) (n p : ℕ) : Type 0 where
   pub later : List Test
   pub split : ts ≡ before ++ (found ∷ later)
   pub none_before : NoneHold before
-  pub found-holds : T found.holds
+  pub found_holds : T found.holds
   pub found_number : found.number ≡ n
-  pub found-place : found.place ≡ p
+  pub found_place : found.place ≡ p
 
 -- a refusal is the first test that holds
 pub refused-first : (ts : List Test) {n p : ℕ} → first_refusal ts ≡ Refused n p → FirstHolds ts n p
@@ -155,9 +155,9 @@ refused-first (t ∷ ts) {n} {p} e = go (refused-first ts) (holds-or-not t.holds
       later = ts;
       split = refl;
       none_before = none-nil;
-      found-holds = h;
+      found_holds = h;
       found_number = cc;
-      found-place = cc;
+      found_place = cc;
     }
     go below (inr h) = let r = below (more t ts h refl ∙ e) in record {
       before = t ∷ r.before;
@@ -165,9 +165,9 @@ refused-first (t ∷ ts) {n} {p} e = go (refused-first ts) (holds-or-not t.holds
       later = r.later;
       split = ap (λ l. t ∷ l) r.split;
       none_before = none-cons h r.none_before;
-      found-holds = r.found-holds;
+      found_holds = r.found_holds;
       found_number = r.found_number;
-      found-place = r.found-place;
+      found_place = r.found_place;
     }
 
 -- and the first test that holds is the refusal
@@ -175,13 +175,13 @@ pub first-refused : (ts : List Test) {n p : ℕ} → FirstHolds ts n p → Refus
 first-refused ts {n} {p} f = skip f.before (f.found ∷ f.later) (sym (accepted-if f.before f.none_before)) this ∙ ap first_refusal (sym f.split)
   where
     this : Refused n p ≡ first_refusal (f.found ∷ f.later)
-    this = rw (← f.found_number, ← f.found-place) (stop f.found.holds f.later f.found-holds)
+    this = rw (← f.found_number, ← f.found_place) (stop f.found.holds f.later f.found_holds)
 
 -- a condition that does not hold never gives its number
 pub refused-holds : (ts : List Test) {n p : ℕ} → first_refusal ts ≡ Refused n p → (t : Test) × Memᴰ t ts × T t.holds × (t.number ≡ n) × (t.place ≡ p)
 refused-holds ts e =
     let f = refused-first ts e in
-    (f.found, subst (Memᴰ f.found) (sym f.split) (Memᴰ.append_right f.before (Memᴰ.head refl)), f.found-holds, f.found_number, f.found-place)
+    (f.found, subst (Memᴰ f.found) (sym f.split) (Memᴰ.append_right f.before (Memᴰ.head refl)), f.found_holds, f.found_number, f.found_place)
 
 pub at_most : (b n : ℕ) → (T (ltb b n) → ⊥) → n ≤ b
 at_most b n h = nltb→le b n (not_T (ltb b n) h)

@@ -112,12 +112,12 @@ module _ (es : List Edge) where
       rest (only n) = tt
       rest (then {u} k s P) = (λ m. s u (before P u m) (stop refl), rest P)
 
-  pub path-short : {v : ℕ} {p : List ℕ} → PathTo es v p → length p ≤ length es
-  path-short {p} P = rw length-map at (pigeon p (map source_of es) (path-distinct P).1 (λ x m. Memᴰ.map source_of (before P x m).1))
+  pub path_short : {v : ℕ} {p : List ℕ} → PathTo es v p → length p ≤ length es
+  path_short {p} P = rw length-map at (pigeon p (map source_of es) (path-distinct P).1 (λ x m. Memᴰ.map source_of (before P x m).1))
 
   pub path→listed : {v : ℕ} {p : List ℕ} → PathTo es v p → Memᴰ p (paths_to es v)
   unfolding paths_to
-  path→listed P = let h = path-short P in path→within (suc (length es)) P (omega arith)
+  path→listed P = let h = path_short P in path→within (suc (length es)) P (omega arith)
 
   pub listed→path : (v : ℕ) (p : List ℕ) → Memᴰ p (paths_to es v) → PathTo es v p
   unfolding paths_to

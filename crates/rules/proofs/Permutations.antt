@@ -8,7 +8,8 @@ use Prim.Native.Nat.{ℕ, suc, ◌≤◌}
 use native.Mathlib.Omega.{arith}
 use lib.Dec.{T}
 use lib.ListN.{length, get_or}
-use Rattle.rules.specs.Lists.{keep, count}
+use Rattle.rules.specs.Lists.{any, keep, count}
+use Rattle.rules.proofs.Lists.{same_test, any-in, any_out}
 
 module _ {A : Type 0} where
   -- an entry moved to the front
@@ -83,6 +84,9 @@ module _ {A : Type 0} where
       go (x ∷ []) (y ∷ []) h k i = Memᴰ.eq_of_singleton (i x (Memᴰ.head refl))
       go (x ∷ []) (y ∷ z ∷ r) h k i = absurd (omega arith)
       go (x ∷ y ∷ l) r h k i = absurd (omega arith)
+
+  pub any_order : (f : A → Bool) {l r : List A} → Permᴰ l r → any f l ≡ any f r
+  any_order f {l} {r} p = same_test _ _ (λ t. let m = any_out f l t in any-in f (perm-mem p m.0 m.1) m.2) (λ t. let m = any_out f r t in any-in f (perm-mem (Permᴰ.symm p) m.0 m.1) m.2)
 
   swap-append : (a b l : List A) → Permᴰ (a ++ (b ++ l)) (b ++ (a ++ l))
   swap-append [] b l = Permᴰ.refl (b ++ l)

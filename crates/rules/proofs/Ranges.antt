@@ -91,12 +91,12 @@ module _ {f : ℕ → ℕ → ℕ} (C : Choice f) (es : List Edge) (d : ℕ → 
 
   -- where there is a path, the best sum is the extreme one, and the only one
   pub sum-is-extreme : {v : ℕ} {p : List ℕ} → PathTo es v p → IsExtreme C.Good es (delay_sum d) v (extreme_sum f es d v)
-  sum-is-extreme P = let r = extreme-attained P in record { path = r.0; is-path = r.1; has-sum = r.2; bounds = λ p Q. extreme-bounds Q }
+  sum-is-extreme P = let r = extreme-attained P in record { path = r.0; is_path = r.1; has_sum = r.2; bounds = λ p Q. extreme-bounds Q }
 
   pub extreme-is-sum : {v n : ℕ} → IsExtreme C.Good es (delay_sum d) v n → n ≡ extreme_sum f es d v
   extreme-is-sum {v} {n} x =
-      let r = extreme-attained x.is-path in
-      C.good-both n (extreme_sum f es d v) (subst (C.Good n) r.2 (x.bounds r.0 r.1)) (subst (C.Good (extreme_sum f es d v)) x.has-sum (extreme-bounds x.is-path))
+      let r = extreme-attained x.is_path in
+      C.good_both n (extreme_sum f es d v) (subst (C.Good n) r.2 (x.bounds r.0 r.1)) (subst (C.Good (extreme_sum f es d v)) x.has_sum (extreme-bounds x.is_path))
 
   -- what an incoming edge from u brings: u's best sum with u's delay
   unfoldable pub through : ℕ → ℕ
@@ -128,4 +128,4 @@ module _ {f : ℕ → ℕ → ℕ} (C : Choice f) (es : List Edge) (d : ℕ → 
       above : Under C (map through (settled_sources es v)) (map (delay_sum d) (paths_to es v))
       above x n =
           let r = Memᴰ.of_map through (settled_sources es v) n in
-          (x, Memᴰ.cast (sym r.2) (up v r.1), C.good-refl x)
+          (x, Memᴰ.cast (sym r.2) (up v r.1), C.good_refl x)

@@ -48,8 +48,8 @@ component-form =
     (λ d c h. sym (ap (λ c. c.delay) h.1.1.1.1)))
     (λ k c h. sym (ap (λ c. c.kind) h.1.1.1.1.1)))
     (λ i c h. sym (ap (λ c. c.id) h.1.1.1.1.1.1)))
-    (λ c h. record { id-fits = h.0; kind_fits = h.1.0; delay-fits = h.1.1.0; locked-fits = h.1.1.1.0; x_fits = h.1.1.1.1.0; y-fits = h.1.1.1.1.1.0; z-fits = h.1.1.1.1.1.1.0 })
-    (λ c h. (h.id-fits, (h.kind_fits, (h.delay-fits, (h.locked-fits, (h.x_fits, (h.y-fits, (h.z-fits, refl))))))))
+    (λ c h. record { id_fits = h.0; kind_fits = h.1.0; delay_fits = h.1.1.0; locked_fits = h.1.1.1.0; x_fits = h.1.1.1.1.0; y_fits = h.1.1.1.1.1.0; z_fits = h.1.1.1.1.1.1.0 })
+    (λ c h. (h.id_fits, (h.kind_fits, (h.delay_fits, (h.locked_fits, (h.x_fits, (h.y_fits, (h.z_fits, refl))))))))
     (λ c. 7)
     (λ c. refl)
 
@@ -62,8 +62,8 @@ connection-form =
     (λ b. last-form (number-form 255 (bytes "transfer=") (λ t. t)) (λ n. n.transfer) (λ t. record { source = a; sink = b; transfer = t }) (λ t. refl))
     (λ b n h. sym (ap (λ n. n.sink) h.1)))
     (λ a n h. sym (ap (λ n. n.source) h.1.1)))
-    (λ n h. record { source_fits = h.0; sink-fits = h.1.0; transfer-fits = h.1.1.0 })
-    (λ n h. (h.source_fits, (h.sink-fits, (h.transfer-fits, refl))))
+    (λ n h. record { source_fits = h.0; sink_fits = h.1.0; transfer_fits = h.1.1.0 })
+    (λ n h. (h.source_fits, (h.sink_fits, (h.transfer_fits, refl))))
     (λ n. 3)
     (λ n. refl)
 
@@ -106,8 +106,8 @@ scene-form =
     (then-form components-form (λ s. s.components)
     (λ cs. last-form connections-form (λ s. s.connections) (λ ns. scene_with cs ns) (λ ns. refl))
     (λ cs s h. sym (ap (λ s. s.components) h.1)))
-    (λ s h. ((h.0.0, h.1.0.0), record { components-fit = h.0.1; connections-fit = h.1.0.1 }))
-    (λ s h. ((h.0.0, h.1.components-fit), ((h.0.1, h.1.connections-fit), refl)))
+    (λ s h. ((h.0.0, h.1.0.0), record { components_fit = h.0.1; connections_fit = h.1.0.1 }))
+    (λ s h. ((h.0.0, h.1.components_fit), ((h.0.1, h.1.connections_fit), refl)))
     scene_lines
     (λ s. refl))
 
@@ -161,7 +161,7 @@ read-scene-text t s p r = go (ltb max_text (length t)) r
     at-end x q e (b ∷ bs) n r = absurd (not-read r)
     at-end x q e [] n r =
         let same : x ≡ s = cc r in
-        let w = scene-form.was-text (place 1 t) x q e in
+        let w = scene-form.was_text (place 1 t) x q e in
         subst (λ x. (t ≡ scene_text x) × SceneWidths x) same (w.0 ∙ ap (λ l. scene_text x ++ l) n ∙ append-nil (scene_text x), w.1.1)
 
     from : (m : Reading Scene) → scene_first (place 1 t) ≡ m → and_then m ended ≡ read s p → (t ≡ scene_text s) × SceneWidths s

@@ -4,11 +4,11 @@ use mathlib.Core.List.{List}
 use mathlib.Core.Path.{◌≡◌, refl}
 use Prim.Native.Nat.{ℕ, ◌<◌}
 use lib.Dec.{T, T_not, not_T, eqb, eqb→eq}
-use lib.ListN.{get_or}
+use lib.ListN.{length, get_or}
 use Rattle.rules.specs.Lists.{indices}
 use Rattle.rules.specs.Graph.{Edge, strongly_connected, shares_component, shared_marks, stop, StrongComponent, OtherInComponent}
 use Rattle.rules.proofs.Lists.{any-in, any_out, and_left, and_right, and_both, eq_test}
-use Rattle.rules.proofs.Indices.{indices-below, below-indices, made_at}
+use Rattle.rules.proofs.Indices.{indices-below, below-indices, made-length, made_at}
 use Rattle.rules.proofs.Reach.{join, connected→, →connected}
 
 -- two nodes are strongly connected exactly if one strongly connected component has both
@@ -47,6 +47,11 @@ module _ (es : List Edge) (n v : ℕ) where
       (and_both (not (eqb w v)) _ (not_T (eqb w v) (λ t. o.different (eqb→eq w v t))) (→connected es v w o.there o.back))
 
 -- a node's mark is 1 where it is shared, and 0 where not
+-- there is a mark for each node: 1 where it is shared, and 0 where not
+pub marks-length : (es : List Edge) (n : ℕ) → length (shared_marks es n) ≡ n
+unfolding shared_marks
+marks-length es n = made-length (λ v. cond (shares_component es n v) 1 0) n
+
 pub marks-at : (es : List Edge) (n v : ℕ) → v < n → get_or (shared_marks es n) v 0 ≡ cond (shares_component es n v) 1 0
 unfolding shared_marks
 marks-at es n v h = made_at (λ v. cond (shares_component es n v) 1 0) n v 0 h

@@ -19,9 +19,9 @@ order a b = go (dec_le a b)
 -- a choice between two numbers, and the order by which it chooses
 pub record Choice (f : ℕ → ℕ → ℕ) : Type 1 where
   pub Good : ℕ → ℕ → Type 0
-  pub good-refl : (a : ℕ) → Good a a
-  pub good-trans : (a b c : ℕ) → Good a b → Good b c → Good a c
-  pub good-both : (a b : ℕ) → Good a b → Good b a → a ≡ b
+  pub good_refl : (a : ℕ) → Good a a
+  pub good_trans : (a b c : ℕ) → Good a b → Good b c → Good a c
+  pub good_both : (a b : ℕ) → Good a b → Good b a → a ≡ b
   pub good_left : (a b : ℕ) → Good (f a b) a
   pub good_right : (a b : ℕ) → Good (f a b) b
   pub one_of : (a b : ℕ) → (f a b ≡ a) ⊎ (f a b ≡ b)
@@ -30,9 +30,9 @@ pub record Choice (f : ℕ → ℕ → ℕ) : Type 1 where
 abbrev pub smaller : Choice min
 smaller = record {
   Good = λ a b. a ≤ b;
-  good-refl = λ a. omega arith;
-  good-trans = λ a b c h k. omega arith;
-  good-both = λ a b h k. omega arith;
+  good_refl = λ a. omega arith;
+  good_trans = λ a b c h k. omega arith;
+  good_both = λ a b h k. omega arith;
   good_left = λ a b. omega arith;
   good_right = λ a b. omega arith;
   one_of = λ a b. ⊎_elim (λ h. inl (omega arith)) (λ h. inr (omega arith)) (order a b);
@@ -42,9 +42,9 @@ smaller = record {
 abbrev pub larger : Choice max
 larger = record {
   Good = λ a b. b ≤ a;
-  good-refl = λ a. omega arith;
-  good-trans = λ a b c h k. omega arith;
-  good-both = λ a b h k. omega arith;
+  good_refl = λ a. omega arith;
+  good_trans = λ a b c h k. omega arith;
+  good_both = λ a b h k. omega arith;
   good_left = λ a b. omega arith;
   good_right = λ a b. omega arith;
   one_of = λ a b. ⊎_elim (λ h. inr (omega arith)) (λ h. inl (omega arith)) (order a b);
@@ -52,7 +52,7 @@ larger = record {
 }
 
 module _ {f : ℕ → ℕ → ℕ} (C : Choice f) where
-  open C use {Good, good-refl, good-trans, good-both, good_left, good_right, one_of}
+  open C use {Good, good_refl, good_trans, good_both, good_left, good_right, one_of}
 
   extreme-in : (x : ℕ) (l : List ℕ) → Memᴰ (extreme f (x ∷ l)) (x ∷ l)
   unfolding extreme
@@ -69,10 +69,10 @@ module _ {f : ℕ → ℕ → ℕ} (C : Choice f) where
 
   pub extreme-good : {x : ℕ} {l : List ℕ} → Memᴰ x l → Good (extreme f l) x
   unfolding extreme
-  extreme-good {x} {l = y ∷ []} (Memᴰ.head e) = subst (Good y) (sym e) (good-refl y)
+  extreme-good {x} {l = y ∷ []} (Memᴰ.head e) = subst (Good y) (sym e) (good_refl y)
   extreme-good {l = y ∷ []} (Memᴰ.tail m) = absurd (Memᴰ.not-nil m)
   extreme-good {x} {l = y ∷ z ∷ l} (Memᴰ.head e) = subst (Good (f y (extreme f (z ∷ l)))) (sym e) (good_left y (extreme f (z ∷ l)))
-  extreme-good {x} {l = y ∷ z ∷ l} (Memᴰ.tail m) = good-trans _ _ _ (good_right y (extreme f (z ∷ l))) (extreme-good m)
+  extreme-good {x} {l = y ∷ z ∷ l} (Memᴰ.tail m) = good_trans _ _ _ (good_right y (extreme f (z ∷ l))) (extreme-good m)
   extreme-good {x = x} {l = []} x3 = elim x3 [ ]
 
   -- each entry of l has one of r that is at least as good
@@ -86,4 +86,4 @@ module _ {f : ℕ → ℕ → ℕ} (C : Choice f) where
   extreme-same (x ∷ l) (y ∷ r) h k =
       let a = h (extreme f (x ∷ l)) (extreme-in x l) in
       let b = k (extreme f (y ∷ r)) (extreme-in y r) in
-      good-both _ _ (good-trans _ _ _ (extreme-good b.1) b.2) (good-trans _ _ _ (extreme-good a.1) a.2)
+      good_both _ _ (good_trans _ _ _ (extreme-good b.1) b.2) (good_trans _ _ _ (extreme-good a.1) a.2)

@@ -131,14 +131,14 @@ module _ {A : Type 0} (name : List ℕ) (value : List ℕ → Option A) where
 -- The form of a thing: its text is read as the thing, over so many lines, and no other text is
 pub record Form {A : Type 0} (reader : Place → Reading A) (text : A → List ℕ) (Fits : A → Type 0) (lines : A → ℕ) : Type 0 where
   pub reads : (x : A) (l : ℕ) (rest : List ℕ) → Fits x → reader (place l (text x ++ rest)) ≡ read x (place (lines x + l) rest)
-  pub was-text : (p : Place) (x : A) (q : Place) → reader p ≡ read x q → (p.rest ≡ text x ++ q.rest) × Fits x
+  pub was_text : (p : Place) (x : A) (q : Place) → reader p ≡ read x q → (p.rest ≡ text x ++ q.rest) × Fits x
 
 -- the same form in other words
 pub as-form : {A : Type 0} {reader : Place → Reading A} {text : A → List ℕ} {Fits Good : A → Type 0} {lines : A → ℕ} → Form reader text Fits lines → ((x : A) → Fits x → Good x) → ((x : A) → Good x → Fits x)
     → (count : A → ℕ) → ((x : A) → lines x ≡ count x) → Form reader text Good count
 as-form form good fits count same = record {
   reads = λ x l rest h. form.reads x l rest (fits x h) ∙ ap (λ k. read x (place (k + l) rest)) (same x);
-  was-text = λ p x q r. let t = form.was-text p x q r in (t.0, good x t.1);
+  was_text = λ p x q r. let t = form.was_text p x q r in (t.0, good x t.1);
 }
 
 -- a field whose values have one text each
@@ -147,7 +147,7 @@ module _ {A : Type 0} (value : List ℕ → Option A) (write : A → List ℕ) (
   pub field-form : (name : List ℕ) → NoFeed name → Form (field name value) (λ x. field_line name (write x)) Fits (λ x. 1)
   field-form name f = record {
     reads = λ x l rest h. field-read name value (write x) x l rest f (free x) (value_read x h) ∙ ap (λ k. read x (place k rest)) (omega arith);
-    was-text = λ p x q r.
+    was_text = λ p x q r.
         let t = field-text name value p x q r in
         let s = value-text t.0 x t.2 in
         (t.1 ∙ ap (λ v. field_line name v ++ q.rest) s.0, s.1);
@@ -170,10 +170,10 @@ module _ {A B : Type 0} {first : Place → Reading A} {text : A → List ℕ} {F
   unfolding and_then
   then-form {next} {more} {Also} {more_lines} forms is = record {
     reads = λ y l rest h. rw (append_assoc, form.reads (part y) l (more y ++ rest) h.0, (forms (part y)).reads y (lines (part y) + l) rest h.1) (ap (λ k. read y (place k rest)) (omega arith));
-    was-text = λ p y q r.
+    was_text = λ p y q r.
         let t = then-text (first p) next y q r in
-        let s = form.was-text p t.0 t.1 t.2 in
-        let u = (forms t.0).was-text t.1 y q t.3 in
+        let s = form.was_text p t.0 t.1 t.2 in
+        let u = (forms t.0).was_text t.1 y q t.3 in
         subst (λ x. (p.rest ≡ (text x ++ more y) ++ q.rest) × (Fits x × Also x y)) (sym (is t.0 y u.1)) (joined (text t.0) (more y) q.rest s.0 u.0, (s.1, u.1));
   }
 
@@ -182,14 +182,14 @@ module _ {A B : Type 0} {first : Place → Reading A} {text : A → List ℕ} {F
   unfolding and_then
   last-form make is = record {
     reads = λ y l rest h. rw (form.reads (part y) l rest h.0) (ap (λ z. read z (place (lines (part y) + l) rest)) h.1);
-    was-text = λ p y q r. let t = then-text (first p) (λ x q. read (make x) q) y q r in go p y q t.0 t.1 t.2 t.3;
+    was_text = λ p y q r. let t = then-text (first p) (λ x q. read (make x) q) y q r in go p y q t.0 t.1 t.2 t.3;
   }
     where
       go : (p : Place) (y : B) (q : Place) (x : A) (r : Place) → first p ≡ read x r → read (make x) r ≡ read y q → (p.rest ≡ text (part y) ++ q.rest) × (Fits (part y) × (make (part y) ≡ y))
       go p y q x r e last =
           let made : make x ≡ y = cc in
           let here : r ≡ q = cc in
-          let s = form.was-text p x r e in
+          let s = form.was_text p x r e in
           subst (λ x. (p.rest ≡ text x ++ q.rest) × (Fits x × (make x ≡ y))) (sym (is x) ∙ ap part made) (s.0 ∙ ap (λ q. text x ++ q.rest) here, (s.1, made))
 
 -- Rows
@@ -227,7 +227,7 @@ module _ {A : Type 0} {row : Place → Reading A} {text : A → List ℕ} {Fits 
       subst (λ xs. RowsText zero p xs q) none_left (ap (λ p. p.rest) here, (refl, λ x m. absurd (Memᴰ.not-nil m)))
   rows-text (suc n) p xs q r =
       let one = then-text (row p) _ xs q r in
-      let first = form.was-text p one.0 one.1 one.2 in
+      let first = form.was_text p one.0 one.1 one.2 in
       let more = then-text (rows_of row n one.1) _ xs q one.3 in
       let last : read (one.0 ∷ more.0) more.1 ≡ read xs q = more.3 in
       let listed : one.0 ∷ more.0 ≡ xs = cc last in
@@ -239,7 +239,7 @@ module _ {A : Type 0} {row : Place → Reading A} {text : A → List ℕ} {Fits 
   pub rows-form : (n : ℕ) → Form (rows_of row n) (flat_map text) (λ xs. (length xs ≡ n) × ((x : A) → Memᴰ x xs → Fits x)) (λ xs. lines * length xs)
   rows-form n = record {
     reads = λ xs l rest h. subst (λ k. rows_of row k (place l (flat_map text xs ++ rest)) ≡ read xs (place (lines * length xs + l) rest)) h.0 (rows-read xs l rest h.1);
-    was-text = rows-text n;
+    was_text = rows-text n;
   }
 
 -- each row takes at least a byte

@@ -25,71 +25,71 @@ use Rattle.rules.proofs.Acceptance.{output-long, output-long-test}
 
 -- the values that a contract's intent uses are in their ranges
 pub record ContractFits (c : Contract) : Type 0 where
-  pub intent-fits : c.intent ≤ 3
-  pub stable-fits : c.intent ≡ 1 → c.powered ≤ 1
-  pub pulse-fits : c.intent ≡ 2 → (c.polarity ≤ 1) × (c.unit ≤ 1)
-  pub maximum-fits : c.intent ≡ 3 → (c.polarity ≤ 1) × (c.unit ≤ 1)
+  pub intent_fits : c.intent ≤ 3
+  pub stable_fits : c.intent ≡ 1 → c.powered ≤ 1
+  pub pulse_fits : c.intent ≡ 2 → (c.polarity ≤ 1) × (c.unit ≤ 1)
+  pub maximum_fits : c.intent ≡ 3 → (c.polarity ≤ 1) × (c.unit ≤ 1)
 
 -- what acceptance says of a trace, if list 9 needs so many entries and its fields' lists have these lengths
 pub record AcceptedTrace (limits : TraceLimits) (t : TraceLists) (need : ℕ) (lengths : List ℕ) : Type 0 where
-  pub events-aligned : EventsAligned t.events
-  pub contracts-aligned : ContractsAligned t.contracts
-  pub events-few : event_count t ≤ limits.events
-  pub contracts-few : contract_count t ≤ limits.contracts
-  pub lists-long : (n : ℕ) → Memᴰ n lengths → need ≤ n
-  pub unit-fits : t.unit ≤ 1
-  pub events-fit : (e : Event) → Memᴰ e (events_of t.events) → e.powered ≤ 1
-  pub contracts-fit : (c : Contract) → Memᴰ c (contracts_of t.contracts) → ContractFits c
-  pub contracts-rise : Rises t.contracts.components
+  pub events_aligned : EventsAligned t.events
+  pub contracts_aligned : ContractsAligned t.contracts
+  pub events_few : event_count t ≤ limits.events
+  pub contracts_few : contract_count t ≤ limits.contracts
+  pub lists_long : (n : ℕ) → Memᴰ n lengths → need ≤ n
+  pub unit_fits : t.unit ≤ 1
+  pub events_fit : (e : Event) → Memᴰ e (events_of t.events) → e.powered ≤ 1
+  pub contracts_fit : (c : Contract) → Memᴰ c (contracts_of t.contracts) → ContractFits c
+  pub contracts_rise : Rises t.contracts.components
 
 -- the tallies of a record sum to its findings, and these are no more than its traces can have
 pub record RecordTrue (limits : TraceLimits) (r : TransientRecord) : Type 0 where
-  pub tallies-counted : sum r.tallies ≡ r.findings
-  pub findings-few : r.findings ≤ limits.findings_each * r.traces
+  pub tallies_counted : sum r.tallies ≡ r.findings
+  pub findings_few : r.findings ≤ limits.findings_each * r.traces
 
 -- what acceptance says of a recording
 pub record AcceptedRecording (limits : TraceLimits) (r : TransientRecord) (t : TraceLists) (lengths : List ℕ) : Type 0 where
-  pub record-true : RecordTrue limits r
-  pub traces-few : r.traces < limits.traces
-  pub trace-accepted : AcceptedTrace limits t (r.findings + event_count t) lengths
+  pub record_true : RecordTrue limits r
+  pub traces_few : r.traces < limits.traces
+  pub trace_accepted : AcceptedTrace limits t (r.findings + event_count t) lengths
 
 -- Each test of a trace fails exactly where its fact holds
 module _ (l : EventLists) where
   pub aligned-events : (T (lengths_differ (event_lengths l)) → ⊥) → EventsAligned l
   unfolding event_lengths
-  aligned-events h = let a = all_same _ _ h in record { components-length = a.0; powered-length = a.1.0 }
+  aligned-events h = let a = all_same _ _ h in record { components_length = a.0; powered_length = a.1.0 }
 
   aligned-events-test : EventsAligned l → T (lengths_differ (event_lengths l)) → ⊥
   unfolding event_lengths
-  aligned-events-test a = same-all _ _ (a.components-length, (a.powered-length, tt))
+  aligned-events-test a = same-all _ _ (a.components_length, (a.powered_length, tt))
 
 module _ (l : ContractLists) where
   pub aligned-contracts : (T (lengths_differ (contract_lengths l)) → ⊥) → ContractsAligned l
   unfolding contract_lengths
   aligned-contracts h =
       let a = all_same _ _ h in
-      record { intents-length = a.0; powered-length = a.1.0; polarities-length = a.1.1.0; units-length = a.1.1.1.0; smallest-length = a.1.1.1.1.0; largest-length = a.1.1.1.1.1.0 }
+      record { intents_length = a.0; powered_length = a.1.0; polarities_length = a.1.1.0; units_length = a.1.1.1.0; smallest_length = a.1.1.1.1.0; largest_length = a.1.1.1.1.1.0 }
 
   aligned-contracts-test : ContractsAligned l → T (lengths_differ (contract_lengths l)) → ⊥
   unfolding contract_lengths
-  aligned-contracts-test a = same-all _ _ (a.intents-length, (a.powered-length, (a.polarities-length, (a.units-length, (a.smallest-length, (a.largest-length, tt))))))
+  aligned-contracts-test a = same-all _ _ (a.intents_length, (a.powered_length, (a.polarities_length, (a.units_length, (a.smallest_length, (a.largest_length, tt))))))
 
 module _ (c : Contract) where
   contract-fits : (T (contract_out_of_range c) → ⊥) → ContractFits c
   unfolding contract_out_of_range
   contract-fits h = record {
-    intent-fits = at_most 3 c.intent (λ t. h (search tests));
-    stable-fits = λ e. let s = eq_test e in at_most 1 c.powered (λ t. h (search tests));
-    pulse-fits = λ e. let s = eq_test e in (at_most 1 c.polarity (λ t. h (search tests)), at_most 1 c.unit (λ t. h (search tests)));
-    maximum-fits = λ e. let s = eq_test e in (at_most 1 c.polarity (λ t. h (search tests)), at_most 1 c.unit (λ t. h (search tests)));
+    intent_fits = at_most 3 c.intent (λ t. h (search tests));
+    stable_fits = λ e. let s = eq_test e in at_most 1 c.powered (λ t. h (search tests));
+    pulse_fits = λ e. let s = eq_test e in (at_most 1 c.polarity (λ t. h (search tests)), at_most 1 c.unit (λ t. h (search tests)));
+    maximum_fits = λ e. let s = eq_test e in (at_most 1 c.polarity (λ t. h (search tests)), at_most 1 c.unit (λ t. h (search tests)));
   }
 
   contract-fits-test : ContractFits c → T (contract_out_of_range c) → ⊥
   unfolding contract_out_of_range
-  contract-fits-test a = or-none (ltb 3 c.intent) _ (within 3 _ a.intent-fits) (or-none (eqb c.intent 1 && ltb 1 c.powered) _ stable pulse)
+  contract-fits-test a = or-none (ltb 3 c.intent) _ (within 3 _ a.intent_fits) (or-none (eqb c.intent 1 && ltb 1 c.powered) _ stable pulse)
     where
       stable : T (eqb c.intent 1 && ltb 1 c.powered) → ⊥
-      stable t = within 1 _ (a.stable-fits (eqb→eq _ _ (and_left (eqb c.intent 1) _ t))) (and_right (eqb c.intent 1) _ t)
+      stable t = within 1 _ (a.stable_fits (eqb→eq _ _ (and_left (eqb c.intent 1) _ t))) (and_right (eqb c.intent 1) _ t)
 
       both : (c.polarity ≤ 1) × (c.unit ≤ 1) → T (ltb 1 c.polarity || ltb 1 c.unit) → ⊥
       both k = or-none (ltb 1 c.polarity) _ (within 1 _ k.0) (within 1 _ k.1)
@@ -97,7 +97,7 @@ module _ (c : Contract) where
       pulse : T ((eqb c.intent 2 || eqb c.intent 3) && (ltb 1 c.polarity || ltb 1 c.unit)) → ⊥
       pulse t =
           let s = and_right (eqb c.intent 2 || eqb c.intent 3) _ t in
-          or-none (eqb c.intent 2) _ (λ q. both (a.pulse-fits (eqb→eq _ _ q)) s) (λ q. both (a.maximum-fits (eqb→eq _ _ q)) s) (and_left (eqb c.intent 2 || eqb c.intent 3) _ t)
+          or-none (eqb c.intent 2) _ (λ q. both (a.pulse_fits (eqb→eq _ _ q)) s) (λ q. both (a.maximum_fits (eqb→eq _ _ q)) s) (and_left (eqb c.intent 2 || eqb c.intent 3) _ t)
 
 one-back : (i : ℕ) → suc i - 1 ≡ i
 one-back i = omega arith
@@ -122,15 +122,15 @@ module _ (limits : TraceLimits) (t : TraceLists) (need : ℕ) (lengths : List �
   none→trace : NoneHold (trace_tests limits t need lengths) → AcceptedTrace limits t need lengths
   unfolding trace_tests contract_tests events_of contracts_of event_count contract_count
   none→trace h = record {
-    events-aligned = aligned-events t.events (h _ (Memᴰ.head refl));
-    contracts-aligned = aligned-contracts t.contracts (h _ (Memᴰ.tail (Memᴰ.head refl)));
-    events-few = at_most _ _ (h _ (Memᴰ.tail (Memᴰ.tail (Memᴰ.head refl))));
-    contracts-few = at_most _ _ (h _ (Memᴰ.tail (Memᴰ.tail (Memᴰ.tail (Memᴰ.head refl)))));
-    lists-long = output-long (output 9 need lengths) (h _ (Memᴰ.tail (Memᴰ.tail (Memᴰ.tail (Memᴰ.tail (Memᴰ.head refl))))));
-    unit-fits = at_most _ _ (h _ (Memᴰ.tail (Memᴰ.tail (Memᴰ.tail (Memᴰ.tail (Memᴰ.tail (Memᴰ.head refl)))))));
-    events-fit = λ e k. let r = Memᴰ.of_map (event_at t.events) (indices (event_count t)) k in subst (λ e. e.powered ≤ 1) r.2 (at_most _ _ (rows.0 _ (Memᴰ.map (event_test t.events) r.1)));
-    contracts-fit = λ c k. let r = Memᴰ.of_map (contract_at t.contracts) _ k in subst ContractFits r.2 (contract-fits _ (at-contract r.0 r.1 _ (Memᴰ.head refl)));
-    contracts-rise = rises t.contracts.components (λ i k. at-contract i (below-indices _ k) _ (Memᴰ.tail (Memᴰ.head refl)));
+    events_aligned = aligned-events t.events (h _ (Memᴰ.head refl));
+    contracts_aligned = aligned-contracts t.contracts (h _ (Memᴰ.tail (Memᴰ.head refl)));
+    events_few = at_most _ _ (h _ (Memᴰ.tail (Memᴰ.tail (Memᴰ.head refl))));
+    contracts_few = at_most _ _ (h _ (Memᴰ.tail (Memᴰ.tail (Memᴰ.tail (Memᴰ.head refl)))));
+    lists_long = output-long (output 9 need lengths) (h _ (Memᴰ.tail (Memᴰ.tail (Memᴰ.tail (Memᴰ.tail (Memᴰ.head refl))))));
+    unit_fits = at_most _ _ (h _ (Memᴰ.tail (Memᴰ.tail (Memᴰ.tail (Memᴰ.tail (Memᴰ.tail (Memᴰ.head refl)))))));
+    events_fit = λ e k. let r = Memᴰ.of_map (event_at t.events) (indices (event_count t)) k in subst (λ e. e.powered ≤ 1) r.2 (at_most _ _ (rows.0 _ (Memᴰ.map (event_test t.events) r.1)));
+    contracts_fit = λ c k. let r = Memᴰ.of_map (contract_at t.contracts) _ k in subst ContractFits r.2 (contract-fits _ (at-contract r.0 r.1 _ (Memᴰ.head refl)));
+    contracts_rise = rises t.contracts.components (λ i k. at-contract i (below-indices _ k) _ (Memᴰ.tail (Memᴰ.head refl)));
   }
     where
       rows : NoneHold event_rows × NoneHold contract_rows
@@ -142,15 +142,15 @@ module _ (limits : TraceLimits) (t : TraceLists) (need : ℕ) (lengths : List �
   trace→none : AcceptedTrace limits t need lengths → NoneHold (trace_tests limits t need lengths)
   unfolding trace_tests contract_tests events_of contracts_of event_count contract_count
   trace→none a =
-      none-cons (aligned-events-test t.events a.events-aligned) (none-cons (aligned-contracts-test t.contracts a.contracts-aligned)
-      (none-cons (within _ _ a.events-few) (none-cons (within _ _ a.contracts-few)
-      (none-cons (output-long-test (output 9 need lengths) a.lists-long) (none-cons (within _ _ a.unit-fits)
-      (none-append event_rows (none-map (event_test t.events) (indices (event_count t)) (λ i k. within 1 _ (a.events-fit _ (Memᴰ.map (event_at t.events) k))))
+      none-cons (aligned-events-test t.events a.events_aligned) (none-cons (aligned-contracts-test t.contracts a.contracts_aligned)
+      (none-cons (within _ _ a.events_few) (none-cons (within _ _ a.contracts_few)
+      (none-cons (output-long-test (output 9 need lengths) a.lists_long) (none-cons (within _ _ a.unit_fits)
+      (none-append event_rows (none-map (event_test t.events) (indices (event_count t)) (λ i k. within 1 _ (a.events_fit _ (Memᴰ.map (event_at t.events) k))))
       (none-flat (contract_tests t.contracts) _ at-contract)))))))
     where
       at-contract : (i : ℕ) → Memᴰ i (indices (contract_count t)) → NoneHold (contract_tests t.contracts i)
       at-contract i k =
-          none-cons (contract-fits-test _ (a.contracts-fit _ (Memᴰ.map (contract_at t.contracts) k))) (none-cons (rises-test t.contracts.components a.contracts-rise i (indices-below _ k)) none-nil)
+          none-cons (contract-fits-test _ (a.contracts_fit _ (Memᴰ.map (contract_at t.contracts) k))) (none-cons (rises-test t.contracts.components a.contracts_rise i (indices-below _ k)) none-nil)
 
   -- the tests accept a trace exactly where it has these facts
   pub accepted→trace : first_refusal (trace_tests limits t need lengths) ≡ Accepted → AcceptedTrace limits t need lengths
@@ -174,23 +174,23 @@ module _ (limits : TraceLimits) (r : TransientRecord) where
   pub not-false→true : (T (record_false limits r) → ⊥) → RecordTrue limits r
   unfolding record_false
   not-false→true h = record {
-    tallies-counted = eqb→eq _ _ (passes (eqb (sum r.tallies) r.findings) (λ t. h (search tests)));
-    findings-few = at_most _ _ (λ t. h (search tests));
+    tallies_counted = eqb→eq _ _ (passes (eqb (sum r.tallies) r.findings) (λ t. h (search tests)));
+    findings_few = at_most _ _ (λ t. h (search tests));
   }
 
   pub true→not-false : RecordTrue limits r → T (record_false limits r) → ⊥
   unfolding record_false
   true→not-false a =
-      or-none (not (eqb (sum r.tallies) r.findings)) _ (λ t. T_not (eqb (sum r.tallies) r.findings) t (eq_test a.tallies-counted)) (within _ _ a.findings-few)
+      or-none (not (eqb (sum r.tallies) r.findings)) _ (λ t. T_not (eqb (sum r.tallies) r.findings) t (eq_test a.tallies_counted)) (within _ _ a.findings_few)
 
 -- a recording is accepted exactly where it has these facts
 module _ (limits : TraceLimits) (r : TransientRecord) (t : TraceLists) (lengths : List ℕ) where
   pub checked→recording : check_recording limits r t lengths ≡ Accepted → AcceptedRecording limits r t lengths
   unfolding check_recording record_tests
   checked→recording e = record {
-    record-true = not-false→true limits r (none _ (Memᴰ.head refl));
-    traces-few = nleb→lt _ _ (not_T (leb limits.traces r.traces) (none _ (Memᴰ.tail (Memᴰ.head refl))));
-    trace-accepted = none→trace limits t _ lengths (λ s m. none s (Memᴰ.tail (Memᴰ.tail m)));
+    record_true = not-false→true limits r (none _ (Memᴰ.head refl));
+    traces_few = nleb→lt _ _ (not_T (leb limits.traces r.traces) (none _ (Memᴰ.tail (Memᴰ.head refl))));
+    trace_accepted = none→trace limits t _ lengths (λ s m. none s (Memᴰ.tail (Memᴰ.tail m)));
   }
     where
       none : NoneHold (record_tests limits r t lengths)
@@ -199,8 +199,8 @@ module _ (limits : TraceLimits) (r : TransientRecord) (t : TraceLists) (lengths 
   pub recording→checked : AcceptedRecording limits r t lengths → check_recording limits r t lengths ≡ Accepted
   unfolding check_recording record_tests
   recording→checked a =
-      accepted-if _ (none-cons (true→not-false limits r a.record-true) (none-cons (λ s. omega (arith, a.traces-few, leb→le limits.traces r.traces s))
-      (trace→none limits t _ lengths a.trace-accepted)))
+      accepted-if _ (none-cons (true→not-false limits r a.record_true) (none-cons (λ s. omega (arith, a.traces_few, leb→le limits.traces r.traces s))
+      (trace→none limits t _ lengths a.trace_accepted)))
 
 -- there are as many events as ticks, and as many contracts as contract components
 pub events-length : (l : EventLists) → length (events_of l) ≡ length l.ticks
@@ -218,58 +218,58 @@ event-indices l = map-map (λ e. e.index) (event_at l) (indices (length l.ticks)
 
 -- each lent list is a field of the events, in order
 pub record EventColumns (l : EventLists) : Type 0 where
-  pub ticks-column : map (λ e. e.tick) (events_of l) ≡ l.ticks
-  pub components-column : map (λ e. e.component) (events_of l) ≡ l.components
-  pub powered-column : map (λ e. e.powered) (events_of l) ≡ l.powered
+  pub ticks_column : map (λ e. e.tick) (events_of l) ≡ l.ticks
+  pub components_column : map (λ e. e.component) (events_of l) ≡ l.components
+  pub powered_column : map (λ e. e.powered) (events_of l) ≡ l.powered
 
 pub event-columns : (l : EventLists) → EventsAligned l → EventColumns l
 unfolding events_of event_at
 event-columns l a =
     record {
-      ticks-column = column (λ e. e.tick) (event_at l) (length l.ticks) l.ticks 0 refl (λ i. refl);
-      components-column = column (λ e. e.component) (event_at l) (length l.ticks) l.components 0 a.components-length (λ i. refl);
-      powered-column = column (λ e. e.powered) (event_at l) (length l.ticks) l.powered 0 a.powered-length (λ i. refl);
+      ticks_column = column (λ e. e.tick) (event_at l) (length l.ticks) l.ticks 0 refl (λ i. refl);
+      components_column = column (λ e. e.component) (event_at l) (length l.ticks) l.components 0 a.components_length (λ i. refl);
+      powered_column = column (λ e. e.powered) (event_at l) (length l.ticks) l.powered 0 a.powered_length (λ i. refl);
     }
 
 -- and so for the contracts
 pub record ContractColumns (l : ContractLists) : Type 0 where
-  pub components-column : map (λ c. c.component) (contracts_of l) ≡ l.components
-  pub intents-column : map (λ c. c.intent) (contracts_of l) ≡ l.intents
-  pub powered-column : map (λ c. c.powered) (contracts_of l) ≡ l.powered
-  pub polarities-column : map (λ c. c.polarity) (contracts_of l) ≡ l.polarities
-  pub units-column : map (λ c. c.unit) (contracts_of l) ≡ l.units
-  pub smallest-column : map (λ c. c.smallest) (contracts_of l) ≡ l.smallest
-  pub largest-column : map (λ c. c.largest) (contracts_of l) ≡ l.largest
+  pub components_column : map (λ c. c.component) (contracts_of l) ≡ l.components
+  pub intents_column : map (λ c. c.intent) (contracts_of l) ≡ l.intents
+  pub powered_column : map (λ c. c.powered) (contracts_of l) ≡ l.powered
+  pub polarities_column : map (λ c. c.polarity) (contracts_of l) ≡ l.polarities
+  pub units_column : map (λ c. c.unit) (contracts_of l) ≡ l.units
+  pub smallest_column : map (λ c. c.smallest) (contracts_of l) ≡ l.smallest
+  pub largest_column : map (λ c. c.largest) (contracts_of l) ≡ l.largest
 
 pub contract-columns : (l : ContractLists) → ContractsAligned l → ContractColumns l
 unfolding contracts_of contract_at
 contract-columns l a =
     record {
-      components-column = column (λ c. c.component) (contract_at l) (length l.components) l.components 0 refl (λ i. refl);
-      intents-column = column (λ c. c.intent) (contract_at l) (length l.components) l.intents 0 a.intents-length (λ i. refl);
-      powered-column = column (λ c. c.powered) (contract_at l) (length l.components) l.powered 0 a.powered-length (λ i. refl);
-      polarities-column = column (λ c. c.polarity) (contract_at l) (length l.components) l.polarities 0 a.polarities-length (λ i. refl);
-      units-column = column (λ c. c.unit) (contract_at l) (length l.components) l.units 0 a.units-length (λ i. refl);
-      smallest-column = column (λ c. c.smallest) (contract_at l) (length l.components) l.smallest 0 a.smallest-length (λ i. refl);
-      largest-column = column (λ c. c.largest) (contract_at l) (length l.components) l.largest 0 a.largest-length (λ i. refl);
+      components_column = column (λ c. c.component) (contract_at l) (length l.components) l.components 0 refl (λ i. refl);
+      intents_column = column (λ c. c.intent) (contract_at l) (length l.components) l.intents 0 a.intents_length (λ i. refl);
+      powered_column = column (λ c. c.powered) (contract_at l) (length l.components) l.powered 0 a.powered_length (λ i. refl);
+      polarities_column = column (λ c. c.polarity) (contract_at l) (length l.components) l.polarities 0 a.polarities_length (λ i. refl);
+      units_column = column (λ c. c.unit) (contract_at l) (length l.components) l.units 0 a.units_length (λ i. refl);
+      smallest_column = column (λ c. c.smallest) (contract_at l) (length l.components) l.smallest 0 a.smallest_length (λ i. refl);
+      largest_column = column (λ c. c.largest) (contract_at l) (length l.components) l.largest 0 a.largest_length (λ i. refl);
     }
 
 -- list 9 left as it was
 pub untouched : (fs : List Finding) (o : FindingLists) → FindingsListed (λ a b. a) fs o o
 untouched fs o =
     record {
-      components-listed = refl;
-      polarities-listed = refl;
-      units-listed = refl;
-      start-ticks-listed = refl;
-      end-ticks-listed = refl;
-      widths-listed = refl;
-      steady-listed = refl;
-      baselines-listed = refl;
-      starts-listed = refl;
-      ends-listed = refl;
-      verdicts-listed = refl;
-      rationales-listed = refl;
+      components_listed = refl;
+      polarities_listed = refl;
+      units_listed = refl;
+      start_ticks_listed = refl;
+      end_ticks_listed = refl;
+      widths_listed = refl;
+      steady_listed = refl;
+      baselines_listed = refl;
+      starts_listed = refl;
+      ends_listed = refl;
+      verdicts_listed = refl;
+      rationales_listed = refl;
     }
 
 -- the answer of a call that is refused

@@ -235,9 +235,9 @@ pulses-windows unit l e =
     ∙ ap (λ n. map (pulse_at unit l (ordered l.components)) (window_places l (ordered l.components) n)) (ordered-length l.components ∙ e)
 
 -- a pulse that begins at a place has its three places in the row
-pub places-inside : (l : EventLists) (row : List ℕ) (n k : ℕ) → k < length (window_places l row n) → get_or (window_places l row n) k 0 + 2 < n
+pub places_inside : (l : EventLists) (row : List ℕ) (n k : ℕ) → k < length (window_places l row n) → get_or (window_places l row n) k 0 + 2 < n
 unfolding window_places
-places-inside l row n k h = omega (arith, indices-below (n - 2) (keep_out (window_pulse l row) (indices (n - 2)) (at_mem 0 (window_places l row n) k h)).0)
+places_inside l row n k h = omega (arith, indices-below (n - 2) (keep_out (window_pulse l row) (indices (n - 2)) (at_mem 0 (window_places l row n) k h)).0)
 
 -- there are no more of them than positions
 pub places-few : (l : EventLists) (row : List ℕ) (n : ℕ) → length (window_places l row n) ≤ n

@@ -25,7 +25,7 @@ paths_within zero es v = []
 paths_within (suc k) es v =
     cond (no_incoming es v) ([] ∷ []) [] ++ flat_map (λ u. map (λ p. u ∷ p) (paths_within k es u)) (settled_sources es v)
 
--- all of them: a path has at most one component more than there are edges (proofs/Paths, path-short)
+-- all of them: a path has at most one component more than there are edges (proofs/Paths, path_short)
 unfoldable pub paths_to : List Edge → ℕ → List (List ℕ)
 paths_to es v = paths_within (suc (length es)) es v
 
@@ -64,8 +64,8 @@ pub data PathTo (es : List Edge) : ℕ → List ℕ → Type 0 where
 -- n is the sum of a path to v, and it bounds the sum of every path
 pub record IsExtreme (Bounds : ℕ → ℕ → Type 0) (es : List Edge) (sum : List ℕ → ℕ) (v n : ℕ) : Type 0 where
   pub path : List ℕ
-  pub is-path : PathTo es v path
-  pub has-sum : sum path ≡ n
+  pub is_path : PathTo es v path
+  pub has_sum : sum path ≡ n
   pub bounds : (p : List ℕ) → PathTo es v p → Bounds n (sum p)
 
 -- "the smallest and the largest over all paths to it"

@@ -25,8 +25,8 @@ event_lists ticks components powered = record { ticks = ticks; components = comp
 
 -- the lists have one length
 pub record EventsAligned (l : EventLists) : Type 0 where
-  pub components-length : length l.components ≡ length l.ticks
-  pub powered-length : length l.powered ≡ length l.ticks
+  pub components_length : length l.components ≡ length l.ticks
+  pub powered_length : length l.powered ≡ length l.ticks
 
 unfoldable pub event_at : EventLists → ℕ → Event
 event_at l i = record { index = i; tick = get_or l.ticks i 0; component = get_or l.components i 0; powered = get_or l.powered i 0 }

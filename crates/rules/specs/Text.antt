@@ -170,19 +170,19 @@ Signed32 (negsuc n) = suc n ≤ 2147483648
 
 -- the delay word is a byte's number, or 256 for `none`
 pub record ComponentWidths (c : Component) : Type 0 where
-  pub id-fits : c.id ≤ largest64
+  pub id_fits : c.id ≤ largest64
   pub kind_fits : c.kind ≤ 255
-  pub delay-fits : c.delay ≤ 256
-  pub locked-fits : c.locked ≤ 1
+  pub delay_fits : c.delay ≤ 256
+  pub locked_fits : c.locked ≤ 1
   pub x_fits : Signed32 c.x
-  pub y-fits : Signed32 c.y
-  pub z-fits : Signed32 c.z
+  pub y_fits : Signed32 c.y
+  pub z_fits : Signed32 c.z
 
 pub record ConnectionWidths (n : Connection) : Type 0 where
   pub source_fits : n.source ≤ largest64
-  pub sink-fits : n.sink ≤ largest64
-  pub transfer-fits : n.transfer ≤ 255
+  pub sink_fits : n.sink ≤ largest64
+  pub transfer_fits : n.transfer ≤ 255
 
 pub record SceneWidths (s : Scene) : Type 0 where
-  pub components-fit : (c : Component) → Memᴰ c s.components → ComponentWidths c
-  pub connections-fit : (n : Connection) → Memᴰ n s.connections → ConnectionWidths n
+  pub components_fit : (c : Component) → Memᴰ c s.components → ComponentWidths c
+  pub connections_fit : (n : Connection) → Memᴰ n s.connections → ConnectionWidths n

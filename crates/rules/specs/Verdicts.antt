@@ -40,12 +40,12 @@ contract_lists x0 x1 x2 x3 x4 x5 x6 =
 
 -- the lists have one length
 pub record ContractsAligned (l : ContractLists) : Type 0 where
-  pub intents-length : length l.intents ≡ length l.components
-  pub powered-length : length l.powered ≡ length l.components
-  pub polarities-length : length l.polarities ≡ length l.components
-  pub units-length : length l.units ≡ length l.components
-  pub smallest-length : length l.smallest ≡ length l.components
-  pub largest-length : length l.largest ≡ length l.components
+  pub intents_length : length l.intents ≡ length l.components
+  pub powered_length : length l.powered ≡ length l.components
+  pub polarities_length : length l.polarities ≡ length l.components
+  pub units_length : length l.units ≡ length l.components
+  pub smallest_length : length l.smallest ≡ length l.components
+  pub largest_length : length l.largest ≡ length l.components
 
 unfoldable pub contract_at : ContractLists → ℕ → Contract
 contract_at l i =
@@ -179,18 +179,18 @@ finding_lengths o =
 
 -- what each field's list holds after a call, given what the call leaves in a list, from what it held and the entries to be written
 pub record FindingsListed (left : List ℕ → List ℕ → List ℕ) (fs : List Finding) (old new : FindingLists) : Type 0 where
-  pub components-listed : new.components ≡ left old.components (map finding_component fs)
-  pub polarities-listed : new.polarities ≡ left old.polarities (map finding_polarity fs)
-  pub units-listed : new.units ≡ left old.units (map finding_unit fs)
-  pub start-ticks-listed : new.start_ticks ≡ left old.start_ticks (map finding_start_tick fs)
-  pub end-ticks-listed : new.end_ticks ≡ left old.end_ticks (map finding_end_tick fs)
-  pub widths-listed : new.widths ≡ left old.widths (map finding_width fs)
-  pub steady-listed : new.steady ≡ left old.steady (map finding_steady fs)
-  pub baselines-listed : new.baselines ≡ left old.baselines (map finding_baseline fs)
-  pub starts-listed : new.starts ≡ left old.starts (map finding_start fs)
-  pub ends-listed : new.ends ≡ left old.ends (map finding_end fs)
-  pub verdicts-listed : new.verdicts ≡ left old.verdicts (map finding_verdict fs)
-  pub rationales-listed : new.rationales ≡ left old.rationales (map finding_rationale fs)
+  pub components_listed : new.components ≡ left old.components (map finding_component fs)
+  pub polarities_listed : new.polarities ≡ left old.polarities (map finding_polarity fs)
+  pub units_listed : new.units ≡ left old.units (map finding_unit fs)
+  pub start_ticks_listed : new.start_ticks ≡ left old.start_ticks (map finding_start_tick fs)
+  pub end_ticks_listed : new.end_ticks ≡ left old.end_ticks (map finding_end_tick fs)
+  pub widths_listed : new.widths ≡ left old.widths (map finding_width fs)
+  pub steady_listed : new.steady ≡ left old.steady (map finding_steady fs)
+  pub baselines_listed : new.baselines ≡ left old.baselines (map finding_baseline fs)
+  pub starts_listed : new.starts ≡ left old.starts (map finding_start fs)
+  pub ends_listed : new.ends ≡ left old.ends (map finding_end fs)
+  pub verdicts_listed : new.verdicts ≡ left old.verdicts (map finding_verdict fs)
+  pub rationales_listed : new.rationales ≡ left old.rationales (map finding_rationale fs)
 
 -- "five tallies, one for each verdict, stand in for the map"
 unfoldable pub tally : List Finding → ℕ → ℕ

@@ -55,7 +55,7 @@ module _ (ids order head next : List ℕ) (i : IdIndex ids order head next) (id 
   found_here e h q a = sym (first→position ids id e (record {
     inside = omega (arith, links);
     has = q;
-    none-earlier = λ p b r. omega (arith, follow-from next i.linked.rises _ e p (a p (omega (arith, links)) r));
+    none_earlier = λ p b r. omega (arith, follow-from next i.linked.rises _ e p (a p (omega (arith, links)) r));
   }))
 
   pub found_nowhere : (e : ℕ) → length next ≤ e → Ahead ids next id e → Missing ≡ position_of ids id

@@ -58,9 +58,9 @@ module _ (ids : List ℕ) (a b t : ℕ) where
           let p = position→first ids a x e in
           let q = position→first ids b y f in
           edge (within 6 t fits) (ends-known-test ids this record {
-            transfer-fits = fits;
+            transfer_fits = fits;
             source_known = λ s. Memᴰ.cast (sym p.has) (at_mem 0 ids x p.inside);
-            sink-known = λ s. Memᴰ.cast (sym q.has) (at_mem 0 ids y q.inside);
+            sink_known = λ s. Memᴰ.cast (sym q.has) (at_mem 0 ids y q.inside);
           }) is-edge x y p.inside p.has q.inside q.has
 
 -- The connections one by one

@@ -83,13 +83,13 @@ sized l m outputs e =
     let a = aligned-components l (none _ (Memᴰ.head refl)) in
     let b = aligned-connections m (none _ (Memᴰ.tail (Memᴰ.head refl))) in
     record {
-      kinds-length = a.kinds-length;
-      delays-length = a.delays-length;
-      locked-length = a.locked-length;
-      sinks-length = b.sinks-length;
-      transfers-length = b.transfers-length;
-      components-few = at_most scene_limits.components (length l.ids) (none _ (Memᴰ.tail (Memᴰ.tail (Memᴰ.head refl))));
-      connections-few = at_most scene_limits.connections (length m.sources) (none _ (Memᴰ.tail (Memᴰ.tail (Memᴰ.tail (Memᴰ.head refl)))));
+      kinds_length = a.kinds_length;
+      delays_length = a.delays_length;
+      locked_length = a.locked_length;
+      sinks_length = b.sinks_length;
+      transfers_length = b.transfers_length;
+      components_few = at_most scene_limits.components (length l.ids) (none _ (Memᴰ.tail (Memᴰ.tail (Memᴰ.head refl))));
+      connections_few = at_most scene_limits.connections (length m.sources) (none _ (Memᴰ.tail (Memᴰ.tail (Memᴰ.tail (Memᴰ.head refl)))));
     }
 
 -- an answer that is what the checks find has its number and place

@@ -49,24 +49,24 @@ unfolding positions_fit
 fitting-room order starts stops e =
     let a = both (leb scene_limits.components (length order)) _ e in
     let b = both (leb scene_limits.connections (length starts)) _ a.1 in
-    record { order-room = leb-true _ _ a.0; starts-room = leb-true _ _ b.0; stops-room = leb-true _ _ b.1 }
+    record { order_room = leb-true _ _ a.0; starts_room = leb-true _ _ b.0; stops_room = leb-true _ _ b.1 }
 
 -- and the converse
 pub room_fits : (order starts stops : List ℕ) → IndexRoom order starts stops → positions_fit scene_limits (length order) (length starts) (length stops) ≡ true
 unfolding positions_fit
-room_fits order starts stops r = simp (le-leb _ _ r.order-room, le-leb _ _ r.starts-room, le-leb _ _ r.stops-room)
+room_fits order starts stops r = simp (le-leb _ _ r.order_room, le-leb _ _ r.starts_room, le-leb _ _ r.stops_room)
 
 -- lists as long as the limits have room for every scene
 pub room_of : (order starts stops : List ℕ) → scene_limits.components ≡ length order → scene_limits.connections ≡ length starts → scene_limits.connections ≡ length stops → IndexRoom order starts stops
-room_of order starts stops o s t = record { order-room = omega (arith, o); starts-room = omega (arith, s); stops-room = omega (arith, t) }
+room_of order starts stops o s t = record { order_room = omega (arith, o); starts_room = omega (arith, s); stops_room = omega (arith, t) }
 
 -- lists of other contents and the same lengths have the same room
 pub room-kept : {order starts stops order' starts' stops' : List ℕ} → IndexRoom order starts stops → length order' ≡ length order → length starts' ≡ length starts → length stops' ≡ length stops → IndexRoom order' starts' stops'
-room-kept r p q s = record { order-room = omega (arith, r.order-room); starts-room = omega (arith, r.starts-room); stops-room = omega (arith, r.stops-room) }
+room-kept r p q s = record { order_room = omega (arith, r.order_room); starts_room = omega (arith, r.starts_room); stops_room = omega (arith, r.stops_room) }
 
 -- an id of distinct ids is found where it stands
 found_back : (ids : List ℕ) → Distinct ids → (i : ℕ) → i < length ids → found_at (position_of ids (id_at ids i)) ≡ i
-found_back ids d i h = ap found_at (first→position ids (id_at ids i) i (record { inside = h; has = refl; none-earlier = λ j k e. let z = distinct-at 0 ids d j i (omega arith) h e in omega arith }))
+found_back ids d i h = ap found_at (first→position ids (id_at ids i) i (record { inside = h; has = refl; none_earlier = λ j k e. let z = distinct-at 0 ids d j i (omega arith) h e in omega arith }))
 
 -- edges by positions are the one row of edges that has the ids of their ends
 placed-back : (ids : List ℕ) → Distinct ids → (ps : List Edge) → Inside (length ids) ps
@@ -88,9 +88,9 @@ module _ (l : ComponentLists) (m : ConnectionLists) (outputs : List Output) (own
       subst (λ c. PositionsGiven c l.ids m order starts stops order starts stops (Refused number place) 0) (sym e ∙ i.answer) (record {
         answer = refl;
         counted = refl;
-        order-written = refl;
-        starts-written = refl;
-        stops-written = refl;
+        order_written = refl;
+        starts_written = refl;
+        stops_written = refl;
         positions = λ q. absurd (not-both q refl);
       })
 
@@ -102,20 +102,20 @@ module _ (l : ComponentLists) (m : ConnectionLists) (outputs : List Output) (own
     p = i.accepted e
 
     edges_few : edges ≤ scene_limits.connections
-    edges_few = omega (arith, p.edges_few, scene.connections-few)
+    edges_few = omega (arith, p.edges_few, scene.connections_few)
 
     -- what is found fits lists that have room for every scene
     pub found-fits : {order starts stops : List ℕ} → IndexRoom order starts stops → FrontsFit (length l.ids) edges order starts stops
-    found-fits r = record { order-fits = omega (arith, scene.components-few, r.order-room); starts_fit = omega (arith, edges_few, r.starts-room); stops-fit = omega (arith, edges_few, r.stops-room) }
+    found-fits r = record { order_fits = omega (arith, scene.components_few, r.order_room); starts_fit = omega (arith, edges_few, r.starts_room); stops_fit = omega (arith, edges_few, r.stops_room) }
 
     starts-length : length (take edges own-starts) ≡ edges
-    starts-length = length-take-le edges own-starts (omega (arith, edges_few, room.starts-room))
+    starts-length = length-take-le edges own-starts (omega (arith, edges_few, room.starts_room))
 
     stops-length : length (take edges own-stops) ≡ edges
-    stops-length = length-take-le edges own-stops (omega (arith, edges_few, room.stops-room))
+    stops-length = length-take-le edges own-stops (omega (arith, edges_few, room.stops_room))
 
     unique : edges_between (take edges own-starts) (take edges own-stops) ≡ edge_positions l.ids m
-    unique = positions-unique l.ids m scene.ids-distinct _ p.positioned
+    unique = positions-unique l.ids m scene.ids_distinct _ p.positioned
 
     sources-are : take edges own-starts ≡ map source_of (edge_positions l.ids m)
     sources-are = sym (edges_between-sources (take edges own-starts) (take edges own-stops) (starts-length ∙ sym stops-length)) ∙ ap (map source_of) unique
@@ -133,9 +133,9 @@ module _ (l : ComponentLists) (m : ConnectionLists) (outputs : List Output) (own
         subst (λ c. PositionsGiven c l.ids m order starts stops order' starts' stops' checked edges) (sym e ∙ i.answer) (record {
           answer = e;
           counted = sym starts-length ∙ ap length sources-are ∙ length-map (edge_positions l.ids m) source_of;
-          order-written = sorted;
-          starts-written = s ∙ ap (written starts) sources-are;
-          stops-written = t ∙ ap (written stops) sinks-are;
+          order_written = sorted;
+          starts_written = s ∙ ap (written starts) sources-are;
+          stops_written = t ∙ ap (written stops) sinks-are;
           positions = λ q. record {
             sorted = ap (take (length l.ids)) sorted ∙ written-front order (ordered l.ids) (length l.ids) (ordered-length l.ids);
             edges_few = p.edges_few;

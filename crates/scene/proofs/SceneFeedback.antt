@@ -41,14 +41,14 @@ module _ (l : ComponentLists) (m : ConnectionLists) (old order starts stops : Li
   linked : scene_limits.connections ≤ length starts → scene_limits.connections ≤ length stops → AcceptedScene scene_limits l m outputs → Positions l.ids m order starts stops edge_count
       → Linked (take edge_count starts) (take edge_count stops) (length l.ids)
   linked h k a p = record {
-    pairs = length-take-le edge_count stops (omega (arith, p.edges_few, a.connections-few)) ∙ sym (length-take-le edge_count starts (omega (arith, p.edges_few, a.connections-few)));
-    nodes-few = a.components-few;
-    edges_few = omega (arith, p.edges_few, a.connections-few, length-take-le edge_count starts (omega (arith, p.edges_few, a.connections-few)));
+    pairs = length-take-le edge_count stops (omega (arith, p.edges_few, a.connections_few)) ∙ sym (length-take-le edge_count starts (omega (arith, p.edges_few, a.connections_few)));
+    nodes_few = a.components_few;
+    edges_few = omega (arith, p.edges_few, a.connections_few, length-take-le edge_count starts (omega (arith, p.edges_few, a.connections_few)));
     inside = p.positioned.inside;
   }
 
   room : AcceptedScene scene_limits l m outputs → length l.ids ≤ length old
-  room a = a.outputs-long _ (Memᴰ.head refl) (length old) (Memᴰ.head refl)
+  room a = a.outputs_long _ (Memᴰ.head refl) (length old) (Memᴰ.head refl)
 
   pub call-refused : (number place : ℕ) → Refused number place ≡ check_scene scene_limits l m outputs → FeedbackCall scene_limits l m old old (Answer.Refused number place)
   unfolding check_feedback
@@ -68,10 +68,10 @@ module _ (l : ComponentLists) (m : ConnectionLists) (old order starts stops : Li
       scene = accepted→ scene_limits l m outputs (sym e)
 
       listed : (new ≡ written old (shared_ids l.ids l.kinds (take edge_count starts) (take edge_count stops))) × (found.listed ≡ length (shared_ids l.ids l.kinds (take edge_count starts) (take edge_count stops)))
-      listed = fitting-ids f (linked-fits (take edge_count starts) (take edge_count stops) (length l.ids) (length l.kinds) (length old) (linked h k scene p) scene.components-aligned.kinds-length (room scene))
+      listed = fitting-ids f (linked-fits (take edge_count starts) (take edge_count stops) (length l.ids) (length l.kinds) (length old) (linked h k scene p) scene.components_aligned.kinds_length (room scene))
 
       same : shared_ids l.ids l.kinds (take edge_count starts) (take edge_count stops) ≡ feedback (components_of l) (edges_of (connections_of m))
-      same = shared-feedback l scene.ids-distinct (edges_of (connections_of m)) (take edge_count starts) (take edge_count stops) p.positioned
+      same = shared-feedback l scene.ids_distinct (edges_of (connections_of m)) (take edge_count starts) (take edge_count stops) p.positioned
 
       counted : found.listed ≡ length (feedback (components_of l) (edges_of (connections_of m)))
       counted = listed.1 ∙ ap length same

@@ -22,6 +22,6 @@ Ahead ids next id e = (p : ℕ) → p < length ids → key_at ids p ≡ id → M
 
 -- room to link n ids
 pub record BucketRoom (n : ℕ) (buckets head next : List ℕ) : Type 0 where
-  pub buckets-room : n ≤ length buckets
+  pub buckets_room : n ≤ length buckets
   pub heads : length head ≡ bucket_count
-  pub next-room : n ≤ length next
+  pub next_room : n ≤ length next

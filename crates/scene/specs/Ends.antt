@@ -26,11 +26,11 @@ pub data LookedUp (ids : List ℕ) (n : Connection) : (refusal edges start stop 
 -- the ids are within the limits and ordered, the lists of connections have one length, and there is room for an edge from each
 pub record Joined (ids order sources sinks transfers starts stops : List ℕ) : Type 0 where
   pub sorted : order ≡ ordered ids
-  pub nodes-few : length ids ≤ scene_limits.components
-  pub sinks-length : length sinks ≡ length sources
-  pub transfers-length : length transfers ≡ length sources
-  pub starts-room : length sources ≤ length starts
-  pub stops-room : length sources ≤ length stops
+  pub nodes_few : length ids ≤ scene_limits.components
+  pub sinks_length : length sinks ≡ length sources
+  pub transfers_length : length transfers ≡ length sources
+  pub starts_room : length sources ≤ length starts
+  pub stops_room : length sources ≤ length stops
 
 -- the answer of the connections' tests; where they accept, the first entries of the two lists are the edges over positions
 pub record EndsFound (ids : List ℕ) (m : ConnectionLists) (starts stops : List ℕ) (checked : Checked) (edges : ℕ) : Type 0 where

@@ -11,19 +11,19 @@ use Rattle.scene.specs.Ends.{ids_alone}
 
 -- lists whose lengths are tested: one length for each kind of record, within the limits
 pub record Sized (ids kinds delays locked sources sinks transfers : List ℕ) : Type 0 where
-  pub kinds-length : length kinds ≡ length ids
-  pub delays-length : length delays ≡ length ids
-  pub locked-length : length locked ≡ length ids
-  pub sinks-length : length sinks ≡ length sources
-  pub transfers-length : length transfers ≡ length sources
-  pub components-few : length ids ≤ scene_limits.components
-  pub connections-few : length sources ≤ scene_limits.connections
+  pub kinds_length : length kinds ≡ length ids
+  pub delays_length : length delays ≡ length ids
+  pub locked_length : length locked ≡ length ids
+  pub sinks_length : length sinks ≡ length sources
+  pub transfers_length : length transfers ≡ length sources
+  pub components_few : length ids ≤ scene_limits.components
+  pub connections_few : length sources ≤ scene_limits.connections
 
 -- lists with an entry for each component, and for each connection, that a scene may have
 pub record IndexRoom (order starts stops : List ℕ) : Type 0 where
-  pub order-room : scene_limits.components ≤ length order
-  pub starts-room : scene_limits.connections ≤ length starts
-  pub stops-room : scene_limits.connections ≤ length stops
+  pub order_room : scene_limits.components ≤ length order
+  pub starts_room : scene_limits.connections ≤ length starts
+  pub stops_room : scene_limits.connections ≤ length stops
 
 -- an accepted scene's ids in order, and its edges over positions
 pub record Positions (ids : List ℕ) (m : ConnectionLists) (order starts stops : List ℕ) (edges : ℕ) : Type 0 where

@@ -16,9 +16,9 @@ positions_fit limits order starts stops = leb limits.components order && (leb li
 
 -- lists that have the positions of n components and of the ends of so many edges
 pub record FrontsFit (n edges : ℕ) (order starts stops : List ℕ) : Type 0 where
-  pub order-fits : n ≤ length order
+  pub order_fits : n ≤ length order
   pub starts_fit : edges ≤ length starts
-  pub stops-fit : edges ≤ length stops
+  pub stops_fit : edges ≤ length stops
 
 -- the position that is found; 0 where there is none, which no end of an accepted scene's edges has: refusal 6
 abbrev pub found_at : Found → ℕ
@@ -38,9 +38,9 @@ edges_told (Refused number place) edges = 0
 pub record PositionsGiven (found : Checked) (ids : List ℕ) (m : ConnectionLists) (order starts stops order' starts' stops' : List ℕ) (checked : Checked) (edges : ℕ) : Type 0 where
   pub answer : checked ≡ found
   pub counted : edges ≡ edges_told found (length (edge_positions ids m))
-  pub order-written : order' ≡ after found order (ordered ids)
-  pub starts-written : starts' ≡ after found starts (map source_of (edge_positions ids m))
-  pub stops-written : stops' ≡ after found stops (map sink_of (edge_positions ids m))
+  pub order_written : order' ≡ after found order (ordered ids)
+  pub starts_written : starts' ≡ after found starts (map source_of (edge_positions ids m))
+  pub stops_written : stops' ≡ after found stops (map sink_of (edge_positions ids m))
   pub positions : checked ≡ Accepted → Positions ids m order' starts' stops' edges
 
 -- with room, the scene is tested and indexed; without, nothing is done, and the answer is a number that no refusal has

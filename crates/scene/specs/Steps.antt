@@ -10,6 +10,6 @@ pub record FirstRepeat (ids : List ℕ) (r : ℕ) : Type 0 where
 
 -- one entry of each list for each component
 pub record Rows (ids kinds delays locked : List ℕ) : Type 0 where
-  pub kinds-length : length kinds ≡ length ids
-  pub delays-length : length delays ≡ length ids
-  pub locked-length : length locked ≡ length ids
+  pub kinds_length : length kinds ≡ length ids
+  pub delays_length : length delays ≡ length ids
+  pub locked_length : length locked ≡ length ids

@@ -1,6 +1,6 @@
 -- The kind table as the code reads it. Assumes nothing.
 use mathlib.Core.List.{List, [], ◌∷◌}
-use mathlib.Core.Bool.{false, cond}
+use mathlib.Core.Bool.{true, false, cond}
 use mathlib.Core.Path.{◌≡◌, refl, sym, ap, ◌∙◌}
 use Prim.Native.Nat.{ℕ, zero, suc, ◌<◌, ◌≤◌}
 use native.Mathlib.Omega.{arith}
@@ -78,15 +78,23 @@ device-codes (suc (suc (suc (suc (suc (suc (suc (suc (suc (suc (suc zero))))))))
 device-codes (suc (suc (suc (suc (suc (suc (suc (suc (suc (suc (suc (suc zero)))))))))))) = refl
 device-codes (suc (suc (suc (suc (suc (suc (suc (suc (suc (suc (suc (suc (suc code))))))))))))) = rw (le-ltb (suc (suc (suc (suc (suc (suc (suc (suc (suc (suc (suc (suc (suc code))))))))))))) 9 (omega arith), le-ltb (suc (suc (suc (suc (suc (suc (suc (suc (suc (suc (suc (suc (suc code))))))))))))) 13 (omega arith))
 
-pub no-device : (code : ℕ) → code < 9 → false ≡ is_device (kind_row code)
+pub below_devices : (code : ℕ) → code < 9 → false ≡ is_device (kind_row code)
 unfolding kind_row
-no-device code h = sym (device-codes code ∙ rw (lt-ltb code 9 h))
+below_devices code h = sym (device-codes code ∙ rw (lt-ltb code 9 h))
 
-pub some-device : (code : ℕ) → 9 ≤ code → ltb code 13 ≡ is_device (kind_row code)
+pub from_devices : (code : ℕ) → 9 ≤ code → ltb code 13 ≡ is_device (kind_row code)
 unfolding kind_row
-some-device code h = sym (device-codes code ∙ rw (le-ltb code 9 h))
+from_devices code h = sym (device-codes code ∙ rw (le-ltb code 9 h))
 
 -- what a kind means as a device
+pub no-device : (code : ℕ) → (kind_row code).meaning ≡ NoDevice → false ≡ is_device (kind_row code)
+unfolding is_device
+no-device code e = rw e
+
+pub some-device : (code : ℕ) (s : TemporalSemantics) → (kind_row code).meaning ≡ Device s → true ≡ is_device (kind_row code)
+unfolding is_device
+some-device code s e = rw e
+
 pub no-meaning : (code : ℕ) → (kind_row code).meaning ≡ NoDevice → ◌≡◌ {A = ℕ} 0 (meaning_code (kind_row code).meaning)
 no-meaning code e = rw e
 

@@ -55,35 +55,35 @@ front-size : {A B : Type 0} (g : A → B) (xs : List A) (l : List B) (i : ℕ) �
 front-size g xs l i e h = sym (ap (λ j. length (take j l)) (sym e) ∙ ap length h ∙ length-map xs g ∙ e)
 
 pub record FrontSizes (l : ComponentLists) (m : ConnectionLists) (n k : ℕ) : Type 0 where
-  pub ids-size : n ≡ length (take n l.ids)
-  pub kinds-size : n ≡ length (take n l.kinds)
-  pub delays-size : n ≡ length (take n l.delays)
-  pub locked-size : n ≡ length (take n l.locked)
-  pub xs-size : n ≡ length (take n l.xs)
-  pub ys-size : n ≡ length (take n l.ys)
-  pub zs-size : n ≡ length (take n l.zs)
-  pub sources-size : k ≡ length (take k m.sources)
-  pub sinks-size : k ≡ length (take k m.sinks)
-  pub transfers-size : k ≡ length (take k m.transfers)
+  pub ids_size : n ≡ length (take n l.ids)
+  pub kinds_size : n ≡ length (take n l.kinds)
+  pub delays_size : n ≡ length (take n l.delays)
+  pub locked_size : n ≡ length (take n l.locked)
+  pub xs_size : n ≡ length (take n l.xs)
+  pub ys_size : n ≡ length (take n l.ys)
+  pub zs_size : n ≡ length (take n l.zs)
+  pub sources_size : k ≡ length (take k m.sources)
+  pub sinks_size : k ≡ length (take k m.sinks)
+  pub transfers_size : k ≡ length (take k m.transfers)
 
 module _ (text : List ℕ) (l : ComponentLists) (m : ConnectionLists) (n k : ℕ) (f : SceneFound text l m n k) where
   pub front-sizes : FrontSizes l m n k
   front-sizes =
       let cs : List Component = f.scene.components in
       let ns : List Connection = f.scene.connections in
-      let h : length cs ≡ n = f.components-counted in
-      let g : length ns ≡ k = f.connections-counted in
+      let h : length cs ≡ n = f.components_counted in
+      let g : length ns ≡ k = f.connections_counted in
       record {
-        ids-size = front-size (λ c. c.id) cs l.ids n h f.components-listed.ids-front;
-        kinds-size = front-size (λ c. c.kind) cs l.kinds n h f.components-listed.kinds-front;
-        delays-size = front-size (λ c. c.delay) cs l.delays n h f.components-listed.delays-front;
-        locked-size = front-size (λ c. c.locked) cs l.locked n h f.components-listed.locked-front;
-        xs-size = front-size (λ c. c.x) cs l.xs n h f.components-listed.xs-front;
-        ys-size = front-size (λ c. c.y) cs l.ys n h f.components-listed.ys-front;
-        zs-size = front-size (λ c. c.z) cs l.zs n h f.components-listed.zs-front;
-        sources-size = front-size (λ n. n.source) ns m.sources k g f.connections-listed.sources-front;
-        sinks-size = front-size (λ n. n.sink) ns m.sinks k g f.connections-listed.sinks-front;
-        transfers-size = front-size (λ n. n.transfer) ns m.transfers k g f.connections-listed.transfers-front;
+        ids_size = front-size (λ c. c.id) cs l.ids n h f.components_listed.ids_front;
+        kinds_size = front-size (λ c. c.kind) cs l.kinds n h f.components_listed.kinds_front;
+        delays_size = front-size (λ c. c.delay) cs l.delays n h f.components_listed.delays_front;
+        locked_size = front-size (λ c. c.locked) cs l.locked n h f.components_listed.locked_front;
+        xs_size = front-size (λ c. c.x) cs l.xs n h f.components_listed.xs_front;
+        ys_size = front-size (λ c. c.y) cs l.ys n h f.components_listed.ys_front;
+        zs_size = front-size (λ c. c.z) cs l.zs n h f.components_listed.zs_front;
+        sources_size = front-size (λ n. n.source) ns m.sources k g f.connections_listed.sources_front;
+        sinks_size = front-size (λ n. n.sink) ns m.sinks k g f.connections_listed.sinks_front;
+        transfers_size = front-size (λ n. n.transfer) ns m.transfers k g f.connections_listed.transfers_front;
       }
 
   -- the fronts are the fields of the scene that was read
@@ -93,31 +93,31 @@ module _ (text : List ℕ) (l : ComponentLists) (m : ConnectionLists) (n k : ℕ
   abbrev pub connection_fronts : ConnectionLists
   connection_fronts = connection_lists (take k m.sources) (take k m.sinks) (take k m.transfers)
 
-  components-are : component_fronts ≡ component_fields f.scene.components
-  components-are =
-      rw (sym f.components-counted, f.components-listed.ids-front, f.components-listed.kinds-front, f.components-listed.delays-front, f.components-listed.locked-front, f.components-listed.xs-front, f.components-listed.ys-front, f.components-listed.zs-front)
+  components_are : component_fronts ≡ component_fields f.scene.components
+  components_are =
+      rw (sym f.components_counted, f.components_listed.ids_front, f.components_listed.kinds_front, f.components_listed.delays_front, f.components_listed.locked_front, f.components_listed.xs_front, f.components_listed.ys_front, f.components_listed.zs_front)
 
-  connections-are : connection_fronts ≡ connection_fields f.scene.connections
-  connections-are =
-      rw (sym f.connections-counted, f.connections-listed.sources-front, f.connections-listed.sinks-front, f.connections-listed.transfers-front)
+  connections_are : connection_fronts ≡ connection_fields f.scene.connections
+  connections_are =
+      rw (sym f.connections_counted, f.connections_listed.sources_front, f.connections_listed.sinks_front, f.connections_listed.transfers_front)
 
   module _ (short : length text ≤ max_text) where
     pub fields_read : FieldsRead component_fronts connection_fronts
     fields_read =
         record {
           scene = f.scene;
-          components-are = components-are;
-          connections-are = connections-are;
-          widths = read_fits text f.scene f.end (read_short text short ∙ f.read-to);
+          components_are = components_are;
+          connections_are = connections_are;
+          widths = read_fits text f.scene f.end (read_short text short ∙ f.read_to);
         }
 
     pub report-found : report_checked (check_scene scene_limits component_fronts connection_fronts []) (scene_of component_fronts connection_fronts) ≡ report_of text
     unfolding report_of check_read
     report-found =
-        ap (λ l. report_checked (check_scene scene_limits l connection_fronts []) (scene_of l connection_fronts)) components-are
-        ∙ ap (λ m. report_checked (check_scene scene_limits (component_fields f.scene.components) m []) (scene_of (component_fields f.scene.components) m)) connections-are
+        ap (λ l. report_checked (check_scene scene_limits l connection_fronts []) (scene_of l connection_fronts)) components_are
+        ∙ ap (λ m. report_checked (check_scene scene_limits (component_fields f.scene.components) m []) (scene_of (component_fields f.scene.components) m)) connections_are
         ∙ ap (report_checked (check_read scene_limits f.scene)) (fields-scene f.scene)
-        ∙ sym (ap report_read (read_short text short ∙ f.read-to))
+        ∙ sym (ap report_read (read_short text short ∙ f.read_to))
 
 -- a front that has n entries is within its list
 pub front-room : {A : Type 0} (n : ℕ) (l : List A) → n ≡ length (take n l) → n ≤ length l

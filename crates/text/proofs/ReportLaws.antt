@@ -65,7 +65,7 @@ module _ (s : Scene) (old new : AssessLists) {answer : SceneAnswer} (call : Asse
   label_at = label (edges s) (delay_at s.components) (delay_at s.components)
 
   feedback-back : take (length (feedback cs es)) new.feedback_ids ≡ feedback cs es
-  feedback-back = rw call.feedback-ids (written-front old.feedback_ids (feedback cs es) (length (feedback cs es)) refl)
+  feedback-back = rw call.feedback_ids (written-front old.feedback_ids (feedback cs es) (length (feedback cs es)) refl)
 
   reasons-back : (ids : List ℕ)
       → rows (reason_row ids new.reason_kinds new.reason_components new.reason_minimums new.reason_maximums) (length rs) ≡ flat_map (reason_line ids) rs
@@ -74,10 +74,10 @@ module _ (s : Scene) (old new : AssessLists) {answer : SceneAnswer} (call : Asse
     where
       back : (k : ℕ) → k < length rs → reason_row ids new.reason_kinds new.reason_components new.reason_minimums new.reason_maximums k ≡ reason_line ids (get_or rs k feedback_loop)
       back k h =
-          let a = field_back reason_kind new.reason_kinds old.reason_kinds rs feedback_loop 0 k call.reason-kinds h in
-          let b = field_back reason_component new.reason_components old.reason_components rs feedback_loop 0 k call.reason-components h in
-          let c = field_back reason_minimum new.reason_minimums old.reason_minimums rs feedback_loop 0 k call.reason-minimums h in
-          let d = field_back reason_maximum new.reason_maximums old.reason_maximums rs feedback_loop 0 k call.reason-maximums h in
+          let a = field_back reason_kind new.reason_kinds old.reason_kinds rs feedback_loop 0 k call.reason_kinds h in
+          let b = field_back reason_component new.reason_components old.reason_components rs feedback_loop 0 k call.reason_components h in
+          let c = field_back reason_minimum new.reason_minimums old.reason_minimums rs feedback_loop 0 k call.reason_minimums h in
+          let d = field_back reason_maximum new.reason_maximums old.reason_maximums rs feedback_loop 0 k call.reason_maximums h in
           rw (a, b, c, d) (reason-back ids (get_or rs k feedback_loop))
 
   edges-back : rows (projected_row new) (length ps) ≡ flat_map projected_lines ps
@@ -91,9 +91,9 @@ module _ (s : Scene) (old new : AssessLists) {answer : SceneAnswer} (call : Asse
       back : (k : ℕ) → k < length (map id_of cs) → label_row (map id_of cs) new.label_settled new.label_lows new.label_highs k ≡ label_lines label_at (get_or (map id_of cs) k 0)
       back k h =
           let i : k < length ls = omega (arith, length-map (map id_of cs) label_at) in
-          let a = field_back settled_flag new.label_settled old.label_settled ls unsettled 0 k call.label-settled i in
-          let b = field_back low_sum new.label_lows old.label_lows ls unsettled 0 k call.label-lows i in
-          let c = field_back high_sum new.label_highs old.label_highs ls unsettled 0 k call.label-highs i in
+          let a = field_back settled_flag new.label_settled old.label_settled ls unsettled 0 k call.label_settled i in
+          let b = field_back low_sum new.label_lows old.label_lows ls unsettled 0 k call.label_lows i in
+          let c = field_back high_sum new.label_highs old.label_highs ls unsettled 0 k call.label_highs i in
           rw (a, b, c, label-back (get_or ls k unsettled), map_at label_at (map id_of cs) k 0 unsettled h)
 
   by-assessment : report_by (assessment cs es) (map id_of cs) (printed_lists new) ≡ report cs es
@@ -121,23 +121,23 @@ module _ {s : Scene} {old new : AssessLists} {a : Assessment} {ids : List ℕ} (
       let n = labels-fit s.components (edges s) in
       let m = ap length named in
       record {
-        reasons-within = record {
-          kinds-within = omega (arith, r, written-within reason_kind _ _ rs call.reason-kinds);
-          components-within = omega (arith, r, written-within reason_component _ _ rs call.reason-components);
-          minimums-within = omega (arith, r, written-within reason_minimum _ _ rs call.reason-minimums);
-          maximums-within = omega (arith, r, written-within reason_maximum _ _ rs call.reason-maximums);
+        reasons_within = record {
+          kinds_within = omega (arith, r, written-within reason_kind _ _ rs call.reason_kinds);
+          components_within = omega (arith, r, written-within reason_component _ _ rs call.reason_components);
+          minimums_within = omega (arith, r, written-within reason_minimum _ _ rs call.reason_minimums);
+          maximums_within = omega (arith, r, written-within reason_maximum _ _ rs call.reason_maximums);
         };
-        feedback-within = omega (arith, ap (λ a. a.feedback) e, ap length call.feedback-ids, written-length old.feedback_ids (feedback s.components (edges s)));
-        edges-within = record {
-          sources-within = omega (arith, p, written-within (λ p. p.source) _ _ ps call.projected-sources);
-          sinks-within = omega (arith, p, written-within (λ p. p.sink) _ _ ps call.projected-sinks);
-          inverted-within = omega (arith, p, written-within (λ p. p.inverted) _ _ ps call.projected-inverted);
-          minimums-within = omega (arith, p, written-within (λ p. p.minimum) _ _ ps call.projected-minimums);
-          maximums-within = omega (arith, p, written-within (λ p. p.maximum) _ _ ps call.projected-maximums);
+        feedback_within = omega (arith, ap (λ a. a.feedback) e, ap length call.feedback_ids, written-length old.feedback_ids (feedback s.components (edges s)));
+        edges_within = record {
+          sources_within = omega (arith, p, written-within (λ p. p.source) _ _ ps call.projected_sources);
+          sinks_within = omega (arith, p, written-within (λ p. p.sink) _ _ ps call.projected_sinks);
+          inverted_within = omega (arith, p, written-within (λ p. p.inverted) _ _ ps call.projected_inverted);
+          minimums_within = omega (arith, p, written-within (λ p. p.minimum) _ _ ps call.projected_minimums);
+          maximums_within = omega (arith, p, written-within (λ p. p.maximum) _ _ ps call.projected_maximums);
         };
-        labels-within = record {
-          settled-within = omega (arith, n, m, length-map s.components id_of, written-within settled_flag _ _ ls call.label-settled);
-          lows-within = omega (arith, n, m, length-map s.components id_of, written-within low_sum _ _ ls call.label-lows);
-          highs-within = omega (arith, n, m, length-map s.components id_of, written-within high_sum _ _ ls call.label-highs);
+        labels_within = record {
+          settled_within = omega (arith, n, m, length-map s.components id_of, written-within settled_flag _ _ ls call.label_settled);
+          lows_within = omega (arith, n, m, length-map s.components id_of, written-within low_sum _ _ ls call.label_lows);
+          highs_within = omega (arith, n, m, length-map s.components id_of, written-within high_sum _ _ ls call.label_highs);
         };
       }

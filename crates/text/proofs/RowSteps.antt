@@ -104,7 +104,7 @@ module _ {A : Type 0} (row : Place → Reading A) (width : ℕ) (text : List ℕ
       record {
         found = f.done;
         amount = f.amount ∙ e;
-        read-to = f.going ∙ ap (λ n. joined f.done (rows_of row n (place line (drop next text)))) none ∙ joined-all row f.done (place line (drop next text));
+        read_to = f.going ∙ ap (λ n. joined f.done (rows_of row n (place line (drop next text)))) none ∙ joined-all row f.done (place line (drop next text));
         listed = f.listed;
         inside = f.inside;
         lines = f.lines;
@@ -114,13 +114,13 @@ module _ {A : Type 0} (row : Place → Reading A) (width : ℕ) (text : List ℕ
 pub component-listed : (l l' : ComponentLists) (c : Component) (i : ℕ) → ComponentStored i c l l' → (cs : List Component) → length cs ≡ i → ComponentsListed l cs → ComponentsListed l' (cs ++ (c ∷ []))
 component-listed l l' c i st cs e h =
     record {
-      ids-front = more (λ c. c.id) l.ids l'.ids st.ids_more h.ids-front;
-      kinds-front = more (λ c. c.kind) l.kinds l'.kinds st.kinds-more h.kinds-front;
-      delays-front = more (λ c. c.delay) l.delays l'.delays st.delays-more h.delays-front;
-      locked-front = more (λ c. c.locked) l.locked l'.locked st.locked-more h.locked-front;
-      xs-front = more (λ c. c.x) l.xs l'.xs st.xs-more h.xs-front;
-      ys-front = more (λ c. c.y) l.ys l'.ys st.ys-more h.ys-front;
-      zs-front = more (λ c. c.z) l.zs l'.zs st.zs-more h.zs-front;
+      ids_front = more (λ c. c.id) l.ids l'.ids st.ids_more h.ids_front;
+      kinds_front = more (λ c. c.kind) l.kinds l'.kinds st.kinds_more h.kinds_front;
+      delays_front = more (λ c. c.delay) l.delays l'.delays st.delays_more h.delays_front;
+      locked_front = more (λ c. c.locked) l.locked l'.locked st.locked_more h.locked_front;
+      xs_front = more (λ c. c.x) l.xs l'.xs st.xs_more h.xs_front;
+      ys_front = more (λ c. c.y) l.ys l'.ys st.ys_more h.ys_front;
+      zs_front = more (λ c. c.z) l.zs l'.zs st.zs_more h.zs_front;
     }
   where
     more : {B : Type 0} (f : Component → B) (old new : List B) → take (suc i) new ≡ take i old ++ (f c ∷ []) → take (length cs) old ≡ map f cs → take (length (cs ++ (c ∷ []))) new ≡ map f (cs ++ (c ∷ []))
@@ -129,14 +129,14 @@ component-listed l l' c i st cs e h =
 pub connection-listed : (l l' : ConnectionLists) (n : Connection) (i : ℕ) → ConnectionStored i n l l' → (ns : List Connection) → length ns ≡ i → ConnectionsListed l ns → ConnectionsListed l' (ns ++ (n ∷ []))
 connection-listed l l' n i st ns e h =
     record {
-      sources-front = front-more (λ n. n.source) ns n i l.sources l'.sources e st.sources-more h.sources-front;
-      sinks-front = front-more (λ n. n.sink) ns n i l.sinks l'.sinks e st.sinks-more h.sinks-front;
-      transfers-front = front-more (λ n. n.transfer) ns n i l.transfers l'.transfers e st.transfers-more h.transfers-front;
+      sources_front = front-more (λ n. n.source) ns n i l.sources l'.sources e st.sources_more h.sources_front;
+      sinks_front = front-more (λ n. n.sink) ns n i l.sinks l'.sinks e st.sinks_more h.sinks_front;
+      transfers_front = front-more (λ n. n.transfer) ns n i l.transfers l'.transfers e st.transfers_more h.transfers_front;
     }
 
 -- nothing is listed yet
 pub components-none : (l : ComponentLists) → ComponentsListed l []
-components-none l = record { ids-front = refl; kinds-front = refl; delays-front = refl; locked-front = refl; xs-front = refl; ys-front = refl; zs-front = refl }
+components-none l = record { ids_front = refl; kinds_front = refl; delays_front = refl; locked_front = refl; xs_front = refl; ys_front = refl; zs_front = refl }
 
 pub connections-none : (l : ConnectionLists) → ConnectionsListed l []
-connections-none l = record { sources-front = refl; sinks-front = refl; transfers-front = refl }
+connections-none l = record { sources_front = refl; sinks_front = refl; transfers_front = refl }

@@ -22,24 +22,24 @@ use Rattle.text.proofs.ReportLaws.{report-by, report-shapes}
 
 -- lists as long as a scene at the limits needs them
 pub record Sized (o : AssessLists) : Type 0 where
-  pub reason-kinds : length o.reason_kinds ≡ 1025
-  pub reason-components : length o.reason_components ≡ 1025
-  pub reason-blocks : length o.reason_blocks ≡ 1025
-  pub reason-minimums : length o.reason_minimums ≡ 1025
-  pub reason-maximums : length o.reason_maximums ≡ 1025
-  pub feedback-ids : length o.feedback_ids ≡ 512
+  pub reason_kinds : length o.reason_kinds ≡ 1025
+  pub reason_components : length o.reason_components ≡ 1025
+  pub reason_blocks : length o.reason_blocks ≡ 1025
+  pub reason_minimums : length o.reason_minimums ≡ 1025
+  pub reason_maximums : length o.reason_maximums ≡ 1025
+  pub feedback_ids : length o.feedback_ids ≡ 512
   pub marks : length o.marks ≡ 512
-  pub projected-sources : length o.projected_sources ≡ 2048
-  pub projected-sinks : length o.projected_sinks ≡ 2048
-  pub projected-inverted : length o.projected_inverted ≡ 2048
-  pub projected-minimums : length o.projected_minimums ≡ 2048
-  pub projected-maximums : length o.projected_maximums ≡ 2048
-  pub projected-starts : length o.projected_starts ≡ 2048
-  pub projected-lengths : length o.projected_lengths ≡ 2048
-  pub path-ids : length o.path_ids ≡ 4608
-  pub label-settled : length o.label_settled ≡ 512
-  pub label-lows : length o.label_lows ≡ 512
-  pub label-highs : length o.label_highs ≡ 512
+  pub projected_sources : length o.projected_sources ≡ 2048
+  pub projected_sinks : length o.projected_sinks ≡ 2048
+  pub projected_inverted : length o.projected_inverted ≡ 2048
+  pub projected_minimums : length o.projected_minimums ≡ 2048
+  pub projected_maximums : length o.projected_maximums ≡ 2048
+  pub projected_starts : length o.projected_starts ≡ 2048
+  pub projected_lengths : length o.projected_lengths ≡ 2048
+  pub path_ids : length o.path_ids ≡ 4608
+  pub label_settled : length o.label_settled ≡ 512
+  pub label_lows : length o.label_lows ≡ 512
+  pub label_highs : length o.label_highs ≡ 512
 
 -- a refusal answered is the refusal found, and an assessment answered was accepted
 answer_number : SceneAnswer → ℕ
@@ -71,21 +71,21 @@ accepted-same (Refused n p) s a e = absurd (omega (arith, ap answer_case e))
 lengths-same : (l : ComponentLists) (m : ConnectionLists) (o : AssessLists) → Sized o
     → assess_checked scene_limits l m o ≡ check_assess scene_limits l m (1025 ∷ 1025 ∷ 1025 ∷ 1025 ∷ 1025 ∷ []) (512 ∷ []) (512 ∷ []) (2048 ∷ 2048 ∷ 2048 ∷ 2048 ∷ 2048 ∷ 2048 ∷ 2048 ∷ []) (4608 ∷ []) (512 ∷ 512 ∷ 512 ∷ [])
 lengths-same l m o z =
-    rw (z.reason-kinds, z.reason-components, z.reason-blocks, z.reason-minimums, z.reason-maximums, z.feedback-ids, z.marks, z.projected-sources, z.projected-sinks, z.projected-inverted, z.projected-minimums, z.projected-maximums, z.projected-starts, z.projected-lengths, z.path-ids, z.label-settled, z.label-lows, z.label-highs)
+    rw (z.reason_kinds, z.reason_components, z.reason_blocks, z.reason_minimums, z.reason_maximums, z.feedback_ids, z.marks, z.projected_sources, z.projected_sinks, z.projected_inverted, z.projected_minimums, z.projected_maximums, z.projected_starts, z.projected_lengths, z.path_ids, z.label_settled, z.label_lows, z.label_highs)
 
 module _ (l : ComponentLists) (m : ConnectionLists) (f : FieldsRead l m) where
   scene_same : scene_of l m ≡ f.scene
-  scene_same = ap (λ k. scene_of k m) f.components-are ∙ ap (scene_of (component_fields f.scene.components)) f.connections-are ∙ fields-scene f.scene
+  scene_same = ap (λ k. scene_of k m) f.components_are ∙ ap (scene_of (component_fields f.scene.components)) f.connections_are ∙ fields-scene f.scene
 
   -- the call finds what the checks find where no list is lent
   read_same : check_scene scene_limits l m [] ≡ check_read scene_limits f.scene
   unfolding check_read
-  read_same = ap (λ k. check_scene scene_limits k m []) f.components-are ∙ ap (λ k. check_scene scene_limits (component_fields f.scene.components) k []) f.connections-are
+  read_same = ap (λ k. check_scene scene_limits k m []) f.components_are ∙ ap (λ k. check_scene scene_limits (component_fields f.scene.components) k []) f.connections_are
 
   module _ (old : AssessLists) (sized : Sized old) where
     checked-same : assess_checked scene_limits l m old ≡ check_scene scene_limits l m []
     checked-same =
-        ap (λ k. assess_checked scene_limits k m old) f.components-are ∙ ap (λ k. assess_checked scene_limits (component_fields f.scene.components) k old) f.connections-are
+        ap (λ k. assess_checked scene_limits k m old) f.components_are ∙ ap (λ k. assess_checked scene_limits (component_fields f.scene.components) k old) f.connections_are
         ∙ lengths-same (component_fields f.scene.components) (connection_fields f.scene.connections) old sized ∙ read-checked f.scene ∙ sym read_same
 
     module _ (new : AssessLists) (answer : SceneAnswer) (call : AssessCall scene_limits l m old new answer) where
@@ -112,7 +112,7 @@ module _ (l : ComponentLists) (m : ConnectionLists) (f : FieldsRead l m) where
 
         pub scene-room : (out : List ℕ) → 1048576 ≤ length out → Room (report_by a l.ids (printed_lists new)) 0 out
         scene-room out h =
-            let short : length (report f.scene.components (edges f.scene)) ≤ 1048576 = report-room f.scene (sym read_same ∙ accepted) (λ c i. (f.widths.components-fit c i).id-fits) in
+            let short : length (report f.scene.components (edges f.scene)) ≤ 1048576 = report-room f.scene (sym read_same ∙ accepted) (λ c i. (f.widths.components_fit c i).id_fits) in
             let same : report_by a l.ids (printed_lists new) ≡ report f.scene.components (edges f.scene) = report-by assessed (component-ids l) ∙ ap (λ s. report s.components (edges s)) scene_same in
             record { fits = omega (arith, h, short, ap length same) }
 
@@ -124,24 +124,24 @@ fresh_lists =
 pub fresh-sized : Sized fresh_lists
 fresh-sized =
     record {
-      reason-kinds = length-replicate {A = ℕ} 1025 0;
-      reason-components = length-replicate {A = ℕ} 1025 0;
-      reason-blocks = length-replicate {A = ℕ} 1025 0;
-      reason-minimums = length-replicate {A = ℕ} 1025 0;
-      reason-maximums = length-replicate {A = ℕ} 1025 0;
-      feedback-ids = length-replicate {A = ℕ} 512 0;
+      reason_kinds = length-replicate {A = ℕ} 1025 0;
+      reason_components = length-replicate {A = ℕ} 1025 0;
+      reason_blocks = length-replicate {A = ℕ} 1025 0;
+      reason_minimums = length-replicate {A = ℕ} 1025 0;
+      reason_maximums = length-replicate {A = ℕ} 1025 0;
+      feedback_ids = length-replicate {A = ℕ} 512 0;
       marks = length-replicate {A = ℕ} 512 0;
-      projected-sources = length-replicate {A = ℕ} 2048 0;
-      projected-sinks = length-replicate {A = ℕ} 2048 0;
-      projected-inverted = length-replicate {A = ℕ} 2048 0;
-      projected-minimums = length-replicate {A = ℕ} 2048 0;
-      projected-maximums = length-replicate {A = ℕ} 2048 0;
-      projected-starts = length-replicate {A = ℕ} 2048 0;
-      projected-lengths = length-replicate {A = ℕ} 2048 0;
-      path-ids = length-replicate {A = ℕ} 4608 0;
-      label-settled = length-replicate {A = ℕ} 512 0;
-      label-lows = length-replicate {A = ℕ} 512 0;
-      label-highs = length-replicate {A = ℕ} 512 0;
+      projected_sources = length-replicate {A = ℕ} 2048 0;
+      projected_sinks = length-replicate {A = ℕ} 2048 0;
+      projected_inverted = length-replicate {A = ℕ} 2048 0;
+      projected_minimums = length-replicate {A = ℕ} 2048 0;
+      projected_maximums = length-replicate {A = ℕ} 2048 0;
+      projected_starts = length-replicate {A = ℕ} 2048 0;
+      projected_lengths = length-replicate {A = ℕ} 2048 0;
+      path_ids = length-replicate {A = ℕ} 4608 0;
+      label_settled = length-replicate {A = ℕ} 512 0;
+      label_lows = length-replicate {A = ℕ} 512 0;
+      label_highs = length-replicate {A = ℕ} 512 0;
     }
 
 -- what was put, by another name

@@ -61,7 +61,7 @@ module _ (text : List ℕ) where
   module _ (l : ComponentLists) (n next line : ℕ) (cs : RowsFound (ComponentsListed l) text (first_part text) n next line) where
     pub scene-without-connections : (k : ℕ) → second_part (place line (drop next text)) ≡ broken k → scene_at (place 1 text) ≡ broken k
     unfolding scene_at and_then
-    scene-without-connections k e = rw (cs.read-to, e)
+    scene-without-connections k e = rw (cs.read_to, e)
 
     module _ (m : ConnectionLists) (k end last : ℕ) (ns : RowsFound (ConnectionsListed m) text (second_part (place line (drop next text))) k end last) where
       whole : Scene
@@ -69,7 +69,7 @@ module _ (text : List ℕ) where
 
       parts : scene_at (place 1 text) ≡ ended whole (place last (drop end text))
       unfolding scene_at and_then whole
-      parts = rw (cs.read-to, ns.read-to)
+      parts = rw (cs.read_to, ns.read_to)
 
       pub scene-goes-on : end < length text → scene_at (place 1 text) ≡ broken last
       scene-goes-on h = parts ∙ ended-not whole last (drop end text) (omega (arith, length-drop end text, h))
@@ -80,11 +80,11 @@ module _ (text : List ℕ) where
           record {
             scene = whole;
             end = place last (drop end text);
-            read-to = parts ∙ ended_here whole last (drop end text) (drop_of_length-le text h);
-            components-counted = cs.amount;
-            connections-counted = ns.amount;
-            components-listed = cs.listed;
-            connections-listed = ns.listed;
+            read_to = parts ∙ ended_here whole last (drop end text) (drop_of_length-le text h);
+            components_counted = cs.amount;
+            connections_counted = ns.amount;
+            components_listed = cs.listed;
+            connections_listed = ns.listed;
           }
 
 -- the line after a line

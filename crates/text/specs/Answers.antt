@@ -7,6 +7,6 @@ use Rattle.rules.specs.Text.{SceneWidths}
 -- the lists are the fields of a scene whose fields fit their widths
 pub record FieldsRead (l : ComponentLists) (m : ConnectionLists) : Type 0 where
   pub scene : Scene
-  pub components-are : l ≡ component_fields scene.components
-  pub connections-are : m ≡ connection_fields scene.connections
+  pub components_are : l ≡ component_fields scene.components
+  pub connections_are : m ≡ connection_fields scene.connections
   pub widths : SceneWidths scene

@@ -85,26 +85,26 @@ report_by a ids o =
 
 -- n entries of list 3, of list 6 and of list 8
 pub record ReasonsWithin (n : ℕ) (kinds components minimums maximums : List ℕ) : Type 0 where
-  pub kinds-within : n ≤ length kinds
-  pub components-within : n ≤ length components
-  pub minimums-within : n ≤ length minimums
-  pub maximums-within : n ≤ length maximums
+  pub kinds_within : n ≤ length kinds
+  pub components_within : n ≤ length components
+  pub minimums_within : n ≤ length minimums
+  pub maximums_within : n ≤ length maximums
 
 pub record EdgesWithin (n : ℕ) (sources sinks inverted minimums maximums : List ℕ) : Type 0 where
-  pub sources-within : n ≤ length sources
-  pub sinks-within : n ≤ length sinks
-  pub inverted-within : n ≤ length inverted
-  pub minimums-within : n ≤ length minimums
-  pub maximums-within : n ≤ length maximums
+  pub sources_within : n ≤ length sources
+  pub sinks_within : n ≤ length sinks
+  pub inverted_within : n ≤ length inverted
+  pub minimums_within : n ≤ length minimums
+  pub maximums_within : n ≤ length maximums
 
 pub record LabelsWithin (n : ℕ) (settled lows highs : List ℕ) : Type 0 where
-  pub settled-within : n ≤ length settled
-  pub lows-within : n ≤ length lows
-  pub highs-within : n ≤ length highs
+  pub settled_within : n ≤ length settled
+  pub lows_within : n ≤ length lows
+  pub highs_within : n ≤ length highs
 
 -- the entries in use stand in the lists
 pub record ReportWithin (a : Assessment) (ids : List ℕ) (o : AssessLists) : Type 0 where
-  pub reasons-within : ReasonsWithin a.reasons o.reason_kinds o.reason_components o.reason_minimums o.reason_maximums
-  pub feedback-within : a.feedback ≤ length o.feedback_ids
-  pub edges-within : EdgesWithin a.projected o.projected_sources o.projected_sinks o.projected_inverted o.projected_minimums o.projected_maximums
-  pub labels-within : LabelsWithin (length ids) o.label_settled o.label_lows o.label_highs
+  pub reasons_within : ReasonsWithin a.reasons o.reason_kinds o.reason_components o.reason_minimums o.reason_maximums
+  pub feedback_within : a.feedback ≤ length o.feedback_ids
+  pub edges_within : EdgesWithin a.projected o.projected_sources o.projected_sinks o.projected_inverted o.projected_minimums o.projected_maximums
+  pub labels_within : LabelsWithin (length ids) o.label_settled o.label_lows o.label_highs

@@ -60,7 +60,7 @@ module _ (l : ContractLists) (v : ℕ) where
         let k = position→first l.components v p (sym (searched.first up) ∙ e) in
         ap (λ c. Registered (intent_of c)) (sym (component-at p k.inside))
         ∙ first-kept (for_component v) (λ c. Registered (intent_of c)) none NotRegistered (contracts_of l) p (omega (arith, count, k.inside))
-        (λ q h t. k.none-earlier q h (there q (omega (arith, k.inside)) t)) (subst (λ c. T (for_component v c)) (sym (component-at p k.inside)) (eq_test k.has))
+        (λ q h t. k.none_earlier q h (there q (omega (arith, k.inside)) t)) (subst (λ c. T (for_component v c)) (sym (component-at p k.inside)) (eq_test k.has))
 
     pub position_in : (p : ℕ) → found ≡ At p → p < length l.components
     position_in p e = (searched.has_key p e).0

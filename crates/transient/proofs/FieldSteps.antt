@@ -31,7 +31,7 @@ module _ {ticks components powered row places : List ℕ} (w : Windows ticks com
   k = get_or places j 0
 
   pub window-in : k + 2 < length row
-  window-in = w.places-inside j h
+  window-in = w.places_inside j h
 
   pub first-in : get_or row k 0 < length ticks
   first-in = w.row_inside.inside k (omega (arith, window-in))

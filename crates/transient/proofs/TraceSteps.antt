@@ -22,7 +22,7 @@ use Rattle.rules.specs.declared.transient.TransientAssessment.{TransientAssessme
 use Rattle.rules.proofs.Ordering.{ordered-length, ordered-below}
 use Rattle.rules.proofs.Shortest.{short-any}
 use Rattle.rules.proofs.TraceAcceptance.{AcceptedTrace, accepted→trace, refused-assessed}
-use Rattle.rules.proofs.Windows.{pulses-windows, places-inside, places-few}
+use Rattle.rules.proofs.Windows.{pulses-windows, places_inside, places-few}
 use Rattle.rules.proofs.Written.{written-front}
 use Rattle.order.specs.Sorted.{SortedPositions}
 use Rattle.order.proofs.Promises.{fitting-sorts}
@@ -36,19 +36,19 @@ module _ (ticks components powered : List ℕ) (aligned : EventsAligned (event_l
   l = event_lists ticks components powered
 
   row-length : length (ordered components) ≡ length ticks
-  row-length = ordered-length components ∙ aligned.components-length
+  row-length = ordered-length components ∙ aligned.components_length
 
   pub ordered-row : EventRow ticks components powered (ordered components)
   ordered-row = record {
-    components-length = aligned.components-length;
-    powered-length = aligned.powered-length;
-    inside = λ k h. omega (arith, ordered-below components k (omega (arith, ordered-length components)), aligned.components-length);
+    components_length = aligned.components_length;
+    powered_length = aligned.powered_length;
+    inside = λ k h. omega (arith, ordered-below components k (omega (arith, ordered-length components)), aligned.components_length);
   }
 
   module _ {row scratch row' scratch' : List ℕ} {b : Bool} (sorted : SortedPositions components row scratch row' scratch' b) (room : length ticks ≤ length row) (room₂ : length ticks ≤ length scratch) where
     pub front-sorted : take (length ticks) row' ≡ ordered components
     front-sorted =
-        ap (take (length ticks)) (fitting-sorts sorted (omega (arith, aligned.components-length)) (omega (arith, aligned.components-length))).1
+        ap (take (length ticks)) (fitting-sorts sorted (omega (arith, aligned.components_length)) (omega (arith, aligned.components_length))).1
         ∙ written-front row (ordered components) (length ticks) row-length
 
     pub front-row : EventRow ticks components powered (take (length ticks) row')
@@ -78,7 +78,7 @@ module _ (ticks components powered : List ℕ) (aligned : EventsAligned (event_l
     pub found-windows : Windows ticks components powered (take (length ticks) row) (take r places)
     found-windows = rw (found.sorted, found.found) (record {
       row_inside = ordered-row;
-      places-inside = λ j h. omega (arith, places-inside l (ordered components) (length ticks) j h, row-length);
+      places_inside = λ j h. omega (arith, places_inside l (ordered components) (length ticks) j h, row-length);
     })
 
 -- the findings of the trace are those of the places found
@@ -94,35 +94,35 @@ findings-here cs unit l {row} {places} {r} aligned p =
 -- Room for each field
 
 pub record FindingRooms (start n : ℕ) (o : FindingLists) : Type 0 where
-  pub components-room : start + n ≤ length o.components
-  pub polarities-room : start + n ≤ length o.polarities
-  pub units-room : start + n ≤ length o.units
-  pub start-ticks-room : start + n ≤ length o.start_ticks
-  pub end-ticks-room : start + n ≤ length o.end_ticks
-  pub widths-room : start + n ≤ length o.widths
-  pub steady-room : start + n ≤ length o.steady
-  pub baselines-room : start + n ≤ length o.baselines
-  pub starts-room : start + n ≤ length o.starts
-  pub ends-room : start + n ≤ length o.ends
-  pub verdicts-room : start + n ≤ length o.verdicts
-  pub rationales-room : start + n ≤ length o.rationales
+  pub components_room : start + n ≤ length o.components
+  pub polarities_room : start + n ≤ length o.polarities
+  pub units_room : start + n ≤ length o.units
+  pub start_ticks_room : start + n ≤ length o.start_ticks
+  pub end_ticks_room : start + n ≤ length o.end_ticks
+  pub widths_room : start + n ≤ length o.widths
+  pub steady_room : start + n ≤ length o.steady
+  pub baselines_room : start + n ≤ length o.baselines
+  pub starts_room : start + n ≤ length o.starts
+  pub ends_room : start + n ≤ length o.ends
+  pub verdicts_room : start + n ≤ length o.verdicts
+  pub rationales_room : start + n ≤ length o.rationales
 
 pub rooms : (start n : ℕ) (o : FindingLists) → FindingRoom start n o → FindingRooms start n o
 unfolding finding_lengths
 rooms start n o h =
     record {
-      components-room = h _ (Memᴰ.head refl);
-      polarities-room = h _ (Memᴰ.tail (Memᴰ.head refl));
-      units-room = h _ (Memᴰ.tail (Memᴰ.tail (Memᴰ.head refl)));
-      start-ticks-room = h _ (Memᴰ.tail (Memᴰ.tail (Memᴰ.tail (Memᴰ.head refl))));
-      end-ticks-room = h _ (Memᴰ.tail (Memᴰ.tail (Memᴰ.tail (Memᴰ.tail (Memᴰ.head refl)))));
-      widths-room = h _ (Memᴰ.tail (Memᴰ.tail (Memᴰ.tail (Memᴰ.tail (Memᴰ.tail (Memᴰ.head refl))))));
-      steady-room = h _ (Memᴰ.tail (Memᴰ.tail (Memᴰ.tail (Memᴰ.tail (Memᴰ.tail (Memᴰ.tail (Memᴰ.head refl)))))));
-      baselines-room = h _ (Memᴰ.tail (Memᴰ.tail (Memᴰ.tail (Memᴰ.tail (Memᴰ.tail (Memᴰ.tail (Memᴰ.tail (Memᴰ.head refl))))))));
-      starts-room = h _ (Memᴰ.tail (Memᴰ.tail (Memᴰ.tail (Memᴰ.tail (Memᴰ.tail (Memᴰ.tail (Memᴰ.tail (Memᴰ.tail (Memᴰ.head refl)))))))));
-      ends-room = h _ (Memᴰ.tail (Memᴰ.tail (Memᴰ.tail (Memᴰ.tail (Memᴰ.tail (Memᴰ.tail (Memᴰ.tail (Memᴰ.tail (Memᴰ.tail (Memᴰ.head refl))))))))));
-      verdicts-room = h _ (Memᴰ.tail (Memᴰ.tail (Memᴰ.tail (Memᴰ.tail (Memᴰ.tail (Memᴰ.tail (Memᴰ.tail (Memᴰ.tail (Memᴰ.tail (Memᴰ.tail (Memᴰ.head refl)))))))))));
-      rationales-room = h _ (Memᴰ.tail (Memᴰ.tail (Memᴰ.tail (Memᴰ.tail (Memᴰ.tail (Memᴰ.tail (Memᴰ.tail (Memᴰ.tail (Memᴰ.tail (Memᴰ.tail (Memᴰ.tail (Memᴰ.head refl))))))))))));
+      components_room = h _ (Memᴰ.head refl);
+      polarities_room = h _ (Memᴰ.tail (Memᴰ.head refl));
+      units_room = h _ (Memᴰ.tail (Memᴰ.tail (Memᴰ.head refl)));
+      start_ticks_room = h _ (Memᴰ.tail (Memᴰ.tail (Memᴰ.tail (Memᴰ.head refl))));
+      end_ticks_room = h _ (Memᴰ.tail (Memᴰ.tail (Memᴰ.tail (Memᴰ.tail (Memᴰ.head refl)))));
+      widths_room = h _ (Memᴰ.tail (Memᴰ.tail (Memᴰ.tail (Memᴰ.tail (Memᴰ.tail (Memᴰ.head refl))))));
+      steady_room = h _ (Memᴰ.tail (Memᴰ.tail (Memᴰ.tail (Memᴰ.tail (Memᴰ.tail (Memᴰ.tail (Memᴰ.head refl)))))));
+      baselines_room = h _ (Memᴰ.tail (Memᴰ.tail (Memᴰ.tail (Memᴰ.tail (Memᴰ.tail (Memᴰ.tail (Memᴰ.tail (Memᴰ.head refl))))))));
+      starts_room = h _ (Memᴰ.tail (Memᴰ.tail (Memᴰ.tail (Memᴰ.tail (Memᴰ.tail (Memᴰ.tail (Memᴰ.tail (Memᴰ.tail (Memᴰ.head refl)))))))));
+      ends_room = h _ (Memᴰ.tail (Memᴰ.tail (Memᴰ.tail (Memᴰ.tail (Memᴰ.tail (Memᴰ.tail (Memᴰ.tail (Memᴰ.tail (Memᴰ.tail (Memᴰ.head refl))))))))));
+      verdicts_room = h _ (Memᴰ.tail (Memᴰ.tail (Memᴰ.tail (Memᴰ.tail (Memᴰ.tail (Memᴰ.tail (Memᴰ.tail (Memᴰ.tail (Memᴰ.tail (Memᴰ.tail (Memᴰ.head refl)))))))))));
+      rationales_room = h _ (Memᴰ.tail (Memᴰ.tail (Memᴰ.tail (Memᴰ.tail (Memᴰ.tail (Memᴰ.tail (Memᴰ.tail (Memᴰ.tail (Memᴰ.tail (Memᴰ.tail (Memᴰ.tail (Memᴰ.head refl))))))))))));
     }
 
 -- All fields
@@ -138,18 +138,18 @@ module _ (cs : List Contract) (unit : ℕ) (l : EventLists) (row places : List �
   unfolding finding_of pulse_at pulse_of
   all-fields x0 x1 x2 x3 x4 x5 x6 x7 x8 x9 x10 x11 p e j = record {
     listed = record {
-      components-listed = field_of finding_component x0 p.components-written;
-      polarities-listed = field_of finding_polarity x1 p.polarities-written;
-      units-listed = field_of finding_unit x2 p.units-written;
-      start-ticks-listed = field_of finding_start_tick x3 p.start-ticks-written;
-      end-ticks-listed = field_of finding_end_tick x4 p.end-ticks-written;
-      widths-listed = field_of finding_width x5 p.widths-written;
-      steady-listed = field_of finding_steady x6 e.steady-written;
-      baselines-listed = field_of finding_baseline x7 e.baselines-written;
-      starts-listed = field_of finding_start x8 e.starts-written;
-      ends-listed = field_of finding_end x9 e.ends-written;
-      verdicts-listed = field_of finding_verdict x10 j.verdicts-written;
-      rationales-listed = field_of finding_rationale x11 j.rationales-written;
+      components_listed = field_of finding_component x0 p.components_written;
+      polarities_listed = field_of finding_polarity x1 p.polarities_written;
+      units_listed = field_of finding_unit x2 p.units_written;
+      start_ticks_listed = field_of finding_start_tick x3 p.start_ticks_written;
+      end_ticks_listed = field_of finding_end_tick x4 p.end_ticks_written;
+      widths_listed = field_of finding_width x5 p.widths_written;
+      steady_listed = field_of finding_steady x6 e.steady_written;
+      baselines_listed = field_of finding_baseline x7 e.baselines_written;
+      starts_listed = field_of finding_start x8 e.starts_written;
+      ends_listed = field_of finding_end x9 e.ends_written;
+      verdicts_listed = field_of finding_verdict x10 j.verdicts_written;
+      rationales_listed = field_of finding_rationale x11 j.rationales_written;
     };
     tallied = j.tallied;
   }
@@ -184,7 +184,7 @@ module _ (start unit : ℕ) (l : EventLists) (c : ContractLists) (old : FindingL
     -- list 9 has room for the findings
     pub accepted-room : (n : ℕ) → n ≤ length l.ticks → FindingRoom start n old
     unfolding event_count
-    accepted-room n h k m = omega (arith, accepted-trace.lists-long k m)
+    accepted-room n h k m = omega (arith, accepted-trace.lists_long k m)
 
     pub accepted-call : {row places : List ℕ} {r : ℕ} {new : FindingLists} {tallies' : List ℕ} → PulsesSorted l row places r
         → FindingsWritten (contracts_of c) unit l (take (length l.ticks) row) (take r places) start old new tallies'
@@ -200,7 +200,7 @@ module _ (start unit : ℕ) (l : EventLists) (c : ContractLists) (old : FindingL
         wrote = found (contracts_of c) unit l (take (length l.ticks) row)
 
         same : map wrote (take r places) ≡ trace_findings t
-        same = findings-here (contracts_of c) unit l accepted-trace.events-aligned.components-length sorted
+        same = findings-here (contracts_of c) unit l accepted-trace.events_aligned.components_length sorted
 
         counted : r ≡ length (trace_findings t)
         counted = sym (ap length (sym same) ∙ length-map (take r places) wrote ∙ ap length sorted.found ∙ sym sorted.counted)

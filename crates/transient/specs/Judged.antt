@@ -14,8 +14,8 @@ found cs unit l row k = finding_of cs (pulse_at (unit_of unit) l row k)
 -- what the lists of verdicts and rationales hold after an entry was written for each place at which a pulse begins, and the tallies
 module _ (cs : List Contract) (unit : ℕ) (l : EventLists) (row places : List ℕ) (start : ℕ) where
   pub record PulsesJudged (verdicts rationales verdicts' rationales' tallies' : List ℕ) : Type 0 where
-    pub verdicts-written : verdicts' ≡ written_from start verdicts (map (λ k. finding_verdict (found cs unit l row k)) places)
-    pub rationales-written : rationales' ≡ written_from start rationales (map (λ k. finding_rationale (found cs unit l row k)) places)
+    pub verdicts_written : verdicts' ≡ written_from start verdicts (map (λ k. finding_verdict (found cs unit l row k)) places)
+    pub rationales_written : rationales' ≡ written_from start rationales (map (λ k. finding_rationale (found cs unit l row k)) places)
     pub tallied : tallies' ≡ tallies (map (found cs unit l row) places)
 
 -- the number lists of list 9 have room for n entries from a place on

@@ -3,13 +3,13 @@ use mathlib.Core.Path.{sym, ◌∙◌}
 use lib.ListN.{length}
 use lib.Seq.{length_front}
 use Rattle.projection.specs.Projecting.{node_lists, projected_lists, work_lists}
-use Rattle.projection.proofs.CallSteps.{marks-room, next-room, marks-lent, next-lent, retainable, lent_length, whole_length, whole_room, number_in, number-lent, ready, call-done, call-refused}
+use Rattle.projection.proofs.CallSteps.{marks_room, next_room, marks-lent, next-lent, retainable, lent_length, whole_length, whole_room, number_in, number-lent, ready, call-done, call-refused}
 use Rattle.projection.proofs.steady_state_projection.Goals as goal
 
 pub slice_bounds-retain-end : goal.slice_bounds-retain-end
 slice_bounds-retain-end c =
     let args = c.args in
-    marks-room (node_lists args.ids.now args.sources.now args.sinks.now args.low.now args.high.now args.inverts.now args.compressible.now args.order.now) args.marks.now (projected_lists args.projected_sources.now args.projected_sinks.now args.projected_inverted.now args.projected_minimums.now args.projected_maximums.now args.projected_starts.now args.projected_lengths.now args.path_ids.now) (work_lists args.head.now args.next.now args.incoming.now args.firsts.now) (sym c.shapes_fit.ensures ∙ c.if-shapes_fit.true)
+    marks_room (node_lists args.ids.now args.sources.now args.sinks.now args.low.now args.high.now args.inverts.now args.compressible.now args.order.now) args.marks.now (projected_lists args.projected_sources.now args.projected_sinks.now args.projected_inverted.now args.projected_minimums.now args.projected_maximums.now args.projected_starts.now args.projected_lengths.now args.path_ids.now) (work_lists args.head.now args.next.now args.incoming.now args.firsts.now) (sym c.shapes_fit.ensures ∙ c.if-shapes_fit.true)
 
 pub slice_bounds-retain-end-then-shapes_fit : goal.slice_bounds-retain-end-then-shapes_fit
 slice_bounds-retain-end-then-shapes_fit c =
@@ -19,7 +19,7 @@ slice_bounds-retain-end-then-shapes_fit c =
 pub slice_bounds-retain-end-then-shapes_fit-2 : goal.slice_bounds-retain-end-then-shapes_fit-2
 slice_bounds-retain-end-then-shapes_fit-2 c =
     let args = c.args in
-    next-room (node_lists args.ids.now args.sources.now args.sinks.now args.low.now args.high.now args.inverts.now args.compressible.now args.order.now) args.marks.now (projected_lists args.projected_sources.now args.projected_sinks.now args.projected_inverted.now args.projected_minimums.now args.projected_maximums.now args.projected_starts.now args.projected_lengths.now args.path_ids.now) (work_lists args.head.now args.next.now args.incoming.now args.firsts.now) (sym c.shapes_fit.ensures ∙ c.if-shapes_fit.true)
+    next_room (node_lists args.ids.now args.sources.now args.sinks.now args.low.now args.high.now args.inverts.now args.compressible.now args.order.now) args.marks.now (projected_lists args.projected_sources.now args.projected_sinks.now args.projected_inverted.now args.projected_minimums.now args.projected_maximums.now args.projected_starts.now args.projected_lengths.now args.path_ids.now) (work_lists args.head.now args.next.now args.incoming.now args.firsts.now) (sym c.shapes_fit.ensures ∙ c.if-shapes_fit.true)
 
 pub slice_bounds-retain-end-then-shapes_fit-3 : goal.slice_bounds-retain-end-then-shapes_fit-3
 slice_bounds-retain-end-then-shapes_fit-3 c =

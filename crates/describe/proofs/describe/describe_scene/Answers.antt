@@ -4,7 +4,7 @@ use mathlib.Core.Path.{sym, ◌∙◌}
 use Rattle.rules.specs.Scene.{component_lists, connection_lists}
 use Rattle.rules.specs.Describe.{describe_lists}
 use Rattle.scene.proofs.PositionSteps.{room_of}
-use Rattle.describe.proofs.SceneDescribe.{call-refused, starts_fit, stops-fit, starts-length, stops-length, components-few, edges_room, components-room, evidence-few, call-described}
+use Rattle.describe.proofs.SceneDescribe.{call-refused, starts_fit, stops_fit, starts-length, stops-length, components_few, edges_room, components_room, evidence-few, call-described}
 use Rattle.describe.proofs.describe.describe_scene.Goals as goal
 
 -- src/describe.rt:151:17
@@ -17,7 +17,7 @@ slice_bounds-list_timed_edges-end c = starts-length (component_lists c.args.ids.
 
 -- src/describe.rt:152:17
 pub slice_bounds-stops-end : goal.slice_bounds-stops-end
-slice_bounds-stops-end c = omega (arith, stops-fit (component_lists c.args.ids.now c.args.kinds.now c.args.delays.now c.args.locked.now c.args.xs.now c.args.ys.now c.args.zs.now) (connection_lists c.args.sources.now c.args.sinks.now c.args.transfers.now) (describe_lists c.args.edge_sources.now c.args.edge_sinks.now c.args.edge_minimums.now c.args.edge_maximums.now c.args.edge_behaviors.now c.args.device_components.now c.args.device_xs.now c.args.device_ys.now c.args.device_zs.now c.args.device_semantics.now c.args.device_delays.now c.args.evidence_kinds.now c.args.evidence_sources.now c.args.evidence_sinks.now c.args.evidence_components.now c.args.evidence_blocks.now) (sym c.in-Accepted.is ∙ c.test_scene-tested.ensures.answer) c.test_scene-tested.new.order c.test_scene-tested.new.starts c.test_scene-tested.new.stops c.test_scene-tested.result.edges (room_of _ _ _ (sym c.test_scene-tested.auto.order) (sym c.test_scene-tested.auto.starts) (sym c.test_scene-tested.auto.stops)) (c.test_scene-tested.ensures.accepted c.in-Accepted.is), c.test_scene-tested.auto.stops)
+slice_bounds-stops-end c = omega (arith, stops_fit (component_lists c.args.ids.now c.args.kinds.now c.args.delays.now c.args.locked.now c.args.xs.now c.args.ys.now c.args.zs.now) (connection_lists c.args.sources.now c.args.sinks.now c.args.transfers.now) (describe_lists c.args.edge_sources.now c.args.edge_sinks.now c.args.edge_minimums.now c.args.edge_maximums.now c.args.edge_behaviors.now c.args.device_components.now c.args.device_xs.now c.args.device_ys.now c.args.device_zs.now c.args.device_semantics.now c.args.device_delays.now c.args.evidence_kinds.now c.args.evidence_sources.now c.args.evidence_sinks.now c.args.evidence_components.now c.args.evidence_blocks.now) (sym c.in-Accepted.is ∙ c.test_scene-tested.ensures.answer) c.test_scene-tested.new.order c.test_scene-tested.new.starts c.test_scene-tested.new.stops c.test_scene-tested.result.edges (room_of _ _ _ (sym c.test_scene-tested.auto.order) (sym c.test_scene-tested.auto.starts) (sym c.test_scene-tested.auto.stops)) (c.test_scene-tested.ensures.accepted c.in-Accepted.is), c.test_scene-tested.auto.stops)
 
 -- src/describe.rt:152:17
 pub slice_bounds-list_timed_edges-end-in-Accepted : goal.slice_bounds-list_timed_edges-end-in-Accepted
@@ -25,11 +25,11 @@ slice_bounds-list_timed_edges-end-in-Accepted c = stops-length (component_lists 
 
 -- src/describe.rt:147:13
 pub list_timed_edges-requires : goal.list_timed_edges-requires
-list_timed_edges-requires c = (edges_room (component_lists c.args.ids.now c.args.kinds.now c.args.delays.now c.args.locked.now c.args.xs.now c.args.ys.now c.args.zs.now) (connection_lists c.args.sources.now c.args.sinks.now c.args.transfers.now) (describe_lists c.args.edge_sources.now c.args.edge_sinks.now c.args.edge_minimums.now c.args.edge_maximums.now c.args.edge_behaviors.now c.args.device_components.now c.args.device_xs.now c.args.device_ys.now c.args.device_zs.now c.args.device_semantics.now c.args.device_delays.now c.args.evidence_kinds.now c.args.evidence_sources.now c.args.evidence_sinks.now c.args.evidence_components.now c.args.evidence_blocks.now) (sym c.in-Accepted.is ∙ c.test_scene-tested.ensures.answer) c.test_scene-tested.new.order c.test_scene-tested.new.starts c.test_scene-tested.new.stops c.test_scene-tested.result.edges (room_of _ _ _ (sym c.test_scene-tested.auto.order) (sym c.test_scene-tested.auto.starts) (sym c.test_scene-tested.auto.stops)) (c.test_scene-tested.ensures.accepted c.in-Accepted.is), components-few (component_lists c.args.ids.now c.args.kinds.now c.args.delays.now c.args.locked.now c.args.xs.now c.args.ys.now c.args.zs.now) (connection_lists c.args.sources.now c.args.sinks.now c.args.transfers.now) (describe_lists c.args.edge_sources.now c.args.edge_sinks.now c.args.edge_minimums.now c.args.edge_maximums.now c.args.edge_behaviors.now c.args.device_components.now c.args.device_xs.now c.args.device_ys.now c.args.device_zs.now c.args.device_semantics.now c.args.device_delays.now c.args.evidence_kinds.now c.args.evidence_sources.now c.args.evidence_sinks.now c.args.evidence_components.now c.args.evidence_blocks.now) (sym c.in-Accepted.is ∙ c.test_scene-tested.ensures.answer) c.test_scene-tested.new.order c.test_scene-tested.new.starts c.test_scene-tested.new.stops c.test_scene-tested.result.edges (room_of _ _ _ (sym c.test_scene-tested.auto.order) (sym c.test_scene-tested.auto.starts) (sym c.test_scene-tested.auto.stops)) (c.test_scene-tested.ensures.accepted c.in-Accepted.is))
+list_timed_edges-requires c = (edges_room (component_lists c.args.ids.now c.args.kinds.now c.args.delays.now c.args.locked.now c.args.xs.now c.args.ys.now c.args.zs.now) (connection_lists c.args.sources.now c.args.sinks.now c.args.transfers.now) (describe_lists c.args.edge_sources.now c.args.edge_sinks.now c.args.edge_minimums.now c.args.edge_maximums.now c.args.edge_behaviors.now c.args.device_components.now c.args.device_xs.now c.args.device_ys.now c.args.device_zs.now c.args.device_semantics.now c.args.device_delays.now c.args.evidence_kinds.now c.args.evidence_sources.now c.args.evidence_sinks.now c.args.evidence_components.now c.args.evidence_blocks.now) (sym c.in-Accepted.is ∙ c.test_scene-tested.ensures.answer) c.test_scene-tested.new.order c.test_scene-tested.new.starts c.test_scene-tested.new.stops c.test_scene-tested.result.edges (room_of _ _ _ (sym c.test_scene-tested.auto.order) (sym c.test_scene-tested.auto.starts) (sym c.test_scene-tested.auto.stops)) (c.test_scene-tested.ensures.accepted c.in-Accepted.is), components_few (component_lists c.args.ids.now c.args.kinds.now c.args.delays.now c.args.locked.now c.args.xs.now c.args.ys.now c.args.zs.now) (connection_lists c.args.sources.now c.args.sinks.now c.args.transfers.now) (describe_lists c.args.edge_sources.now c.args.edge_sinks.now c.args.edge_minimums.now c.args.edge_maximums.now c.args.edge_behaviors.now c.args.device_components.now c.args.device_xs.now c.args.device_ys.now c.args.device_zs.now c.args.device_semantics.now c.args.device_delays.now c.args.evidence_kinds.now c.args.evidence_sources.now c.args.evidence_sinks.now c.args.evidence_components.now c.args.evidence_blocks.now) (sym c.in-Accepted.is ∙ c.test_scene-tested.ensures.answer) c.test_scene-tested.new.order c.test_scene-tested.new.starts c.test_scene-tested.new.stops c.test_scene-tested.result.edges (room_of _ _ _ (sym c.test_scene-tested.auto.order) (sym c.test_scene-tested.auto.starts) (sym c.test_scene-tested.auto.stops)) (c.test_scene-tested.ensures.accepted c.in-Accepted.is))
 
 -- src/describe.rt:159:17
 pub list_components-devices-requires : goal.list_components-devices-requires
-list_components-devices-requires c = (components-room (component_lists c.args.ids.now c.args.kinds.now c.args.delays.now c.args.locked.now c.args.xs.now c.args.ys.now c.args.zs.now) (connection_lists c.args.sources.now c.args.sinks.now c.args.transfers.now) (describe_lists c.args.edge_sources.now c.args.edge_sinks.now c.args.edge_minimums.now c.args.edge_maximums.now c.args.edge_behaviors.now c.args.device_components.now c.args.device_xs.now c.args.device_ys.now c.args.device_zs.now c.args.device_semantics.now c.args.device_delays.now c.args.evidence_kinds.now c.args.evidence_sources.now c.args.evidence_sinks.now c.args.evidence_components.now c.args.evidence_blocks.now) (sym c.in-Accepted.is ∙ c.test_scene-tested.ensures.answer) c.test_scene-tested.new.order c.test_scene-tested.new.starts c.test_scene-tested.new.stops c.test_scene-tested.result.edges (room_of _ _ _ (sym c.test_scene-tested.auto.order) (sym c.test_scene-tested.auto.starts) (sym c.test_scene-tested.auto.stops)) (c.test_scene-tested.ensures.accepted c.in-Accepted.is), components-few (component_lists c.args.ids.now c.args.kinds.now c.args.delays.now c.args.locked.now c.args.xs.now c.args.ys.now c.args.zs.now) (connection_lists c.args.sources.now c.args.sinks.now c.args.transfers.now) (describe_lists c.args.edge_sources.now c.args.edge_sinks.now c.args.edge_minimums.now c.args.edge_maximums.now c.args.edge_behaviors.now c.args.device_components.now c.args.device_xs.now c.args.device_ys.now c.args.device_zs.now c.args.device_semantics.now c.args.device_delays.now c.args.evidence_kinds.now c.args.evidence_sources.now c.args.evidence_sinks.now c.args.evidence_components.now c.args.evidence_blocks.now) (sym c.in-Accepted.is ∙ c.test_scene-tested.ensures.answer) c.test_scene-tested.new.order c.test_scene-tested.new.starts c.test_scene-tested.new.stops c.test_scene-tested.result.edges (room_of _ _ _ (sym c.test_scene-tested.auto.order) (sym c.test_scene-tested.auto.starts) (sym c.test_scene-tested.auto.stops)) (c.test_scene-tested.ensures.accepted c.in-Accepted.is))
+list_components-devices-requires c = (components_room (component_lists c.args.ids.now c.args.kinds.now c.args.delays.now c.args.locked.now c.args.xs.now c.args.ys.now c.args.zs.now) (connection_lists c.args.sources.now c.args.sinks.now c.args.transfers.now) (describe_lists c.args.edge_sources.now c.args.edge_sinks.now c.args.edge_minimums.now c.args.edge_maximums.now c.args.edge_behaviors.now c.args.device_components.now c.args.device_xs.now c.args.device_ys.now c.args.device_zs.now c.args.device_semantics.now c.args.device_delays.now c.args.evidence_kinds.now c.args.evidence_sources.now c.args.evidence_sinks.now c.args.evidence_components.now c.args.evidence_blocks.now) (sym c.in-Accepted.is ∙ c.test_scene-tested.ensures.answer) c.test_scene-tested.new.order c.test_scene-tested.new.starts c.test_scene-tested.new.stops c.test_scene-tested.result.edges (room_of _ _ _ (sym c.test_scene-tested.auto.order) (sym c.test_scene-tested.auto.starts) (sym c.test_scene-tested.auto.stops)) (c.test_scene-tested.ensures.accepted c.in-Accepted.is), components_few (component_lists c.args.ids.now c.args.kinds.now c.args.delays.now c.args.locked.now c.args.xs.now c.args.ys.now c.args.zs.now) (connection_lists c.args.sources.now c.args.sinks.now c.args.transfers.now) (describe_lists c.args.edge_sources.now c.args.edge_sinks.now c.args.edge_minimums.now c.args.edge_maximums.now c.args.edge_behaviors.now c.args.device_components.now c.args.device_xs.now c.args.device_ys.now c.args.device_zs.now c.args.device_semantics.now c.args.device_delays.now c.args.evidence_kinds.now c.args.evidence_sources.now c.args.evidence_sinks.now c.args.evidence_components.now c.args.evidence_blocks.now) (sym c.in-Accepted.is ∙ c.test_scene-tested.ensures.answer) c.test_scene-tested.new.order c.test_scene-tested.new.starts c.test_scene-tested.new.stops c.test_scene-tested.result.edges (room_of _ _ _ (sym c.test_scene-tested.auto.order) (sym c.test_scene-tested.auto.starts) (sym c.test_scene-tested.auto.stops)) (c.test_scene-tested.ensures.accepted c.in-Accepted.is))
 
 -- src/describe.rt:183:28
 pub overflow_add-result : goal.overflow_add-result

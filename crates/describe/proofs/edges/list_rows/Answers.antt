@@ -15,55 +15,55 @@ pub bounds-stops-e : goal.bounds-stops-e
 bounds-stops-e c = omega (arith, c.requires.0.pairs)
 
 pub offset_bounds-ticks-start : goal.offset_bounds-ticks-start
-offset_bounds-ticks-start c = omega (arith, c.requires.0.starts-below c.loop-e.e c.loop-e-test.true, c.requires.0.stops-below c.loop-e.e (omega (arith, c.requires.0.pairs)), c.requires.1)
+offset_bounds-ticks-start c = omega (arith, c.requires.0.starts_below c.loop-e.e c.loop-e-test.true, c.requires.0.stops_below c.loop-e.e (omega (arith, c.requires.0.pairs)), c.requires.1)
 
 pub bounds-ticks-start : goal.bounds-ticks-start
-bounds-ticks-start c = omega (arith, c.requires.0.starts-below c.loop-e.e c.loop-e-test.true, c.requires.0.stops-below c.loop-e.e (omega (arith, c.requires.0.pairs)), c.requires.1)
+bounds-ticks-start c = omega (arith, c.requires.0.starts_below c.loop-e.e c.loop-e-test.true, c.requires.0.stops_below c.loop-e.e (omega (arith, c.requires.0.pairs)), c.requires.1)
 
 pub offset_bounds-ids-start : goal.offset_bounds-ids-start
-offset_bounds-ids-start c = omega (arith, c.requires.0.starts-below c.loop-e.e c.loop-e-test.true, c.requires.0.stops-below c.loop-e.e (omega (arith, c.requires.0.pairs)))
+offset_bounds-ids-start c = omega (arith, c.requires.0.starts_below c.loop-e.e c.loop-e-test.true, c.requires.0.stops_below c.loop-e.e (omega (arith, c.requires.0.pairs)))
 
 pub bounds-ids-start : goal.bounds-ids-start
-bounds-ids-start c = omega (arith, c.requires.0.starts-below c.loop-e.e c.loop-e-test.true, c.requires.0.stops-below c.loop-e.e (omega (arith, c.requires.0.pairs)))
+bounds-ids-start c = omega (arith, c.requires.0.starts_below c.loop-e.e c.loop-e-test.true, c.requires.0.stops_below c.loop-e.e (omega (arith, c.requires.0.pairs)))
 
 pub offset_bounds-edge_sources-e : goal.offset_bounds-edge_sources-e
-offset_bounds-edge_sources-e c = omega (arith, c.loop-e.invariant.1.size, c.requires.0.sources-room)
+offset_bounds-edge_sources-e c = omega (arith, c.loop-e.invariant.1.size, c.requires.0.sources_room)
 
 pub bounds-edge_sources-e : goal.bounds-edge_sources-e
-bounds-edge_sources-e c = omega (arith, c.loop-e.invariant.1.size, c.requires.0.sources-room)
+bounds-edge_sources-e c = omega (arith, c.loop-e.invariant.1.size, c.requires.0.sources_room)
 
 pub offset_bounds-ids-stop : goal.offset_bounds-ids-stop
-offset_bounds-ids-stop c = omega (arith, c.requires.0.stops-below c.loop-e.e (omega (arith, c.requires.0.pairs)))
+offset_bounds-ids-stop c = omega (arith, c.requires.0.stops_below c.loop-e.e (omega (arith, c.requires.0.pairs)))
 
 pub bounds-ids-stop : goal.bounds-ids-stop
-bounds-ids-stop c = omega (arith, c.requires.0.stops-below c.loop-e.e (omega (arith, c.requires.0.pairs)))
+bounds-ids-stop c = omega (arith, c.requires.0.stops_below c.loop-e.e (omega (arith, c.requires.0.pairs)))
 
 pub offset_bounds-edge_sinks-e : goal.offset_bounds-edge_sinks-e
-offset_bounds-edge_sinks-e c = omega (arith, c.loop-e.invariant.2.size, c.requires.0.sinks-room)
+offset_bounds-edge_sinks-e c = omega (arith, c.loop-e.invariant.2.size, c.requires.0.sinks_room)
 
 pub bounds-edge_sinks-e : goal.bounds-edge_sinks-e
-bounds-edge_sinks-e c = omega (arith, c.loop-e.invariant.2.size, c.requires.0.sinks-room)
+bounds-edge_sinks-e c = omega (arith, c.loop-e.invariant.2.size, c.requires.0.sinks_room)
 
 pub offset_bounds-edge_minimums-e : goal.offset_bounds-edge_minimums-e
-offset_bounds-edge_minimums-e c = omega (arith, c.loop-e.invariant.3.size, c.requires.0.minimums-room)
+offset_bounds-edge_minimums-e c = omega (arith, c.loop-e.invariant.3.size, c.requires.0.minimums_room)
 
 pub bounds-edge_minimums-e : goal.bounds-edge_minimums-e
-bounds-edge_minimums-e c = omega (arith, c.loop-e.invariant.3.size, c.requires.0.minimums-room)
+bounds-edge_minimums-e c = omega (arith, c.loop-e.invariant.3.size, c.requires.0.minimums_room)
 
 pub offset_bounds-edge_maximums-e : goal.offset_bounds-edge_maximums-e
-offset_bounds-edge_maximums-e c = omega (arith, c.loop-e.invariant.4.size, c.requires.0.maximums-room)
+offset_bounds-edge_maximums-e c = omega (arith, c.loop-e.invariant.4.size, c.requires.0.maximums_room)
 
 pub bounds-edge_maximums-e : goal.bounds-edge_maximums-e
-bounds-edge_maximums-e c = omega (arith, c.loop-e.invariant.4.size, c.requires.0.maximums-room)
+bounds-edge_maximums-e c = omega (arith, c.loop-e.invariant.4.size, c.requires.0.maximums_room)
 
 pub bounds-behaviors-start : goal.bounds-behaviors-start
-bounds-behaviors-start c = omega (arith, c.requires.0.starts-below c.loop-e.e c.loop-e-test.true, c.requires.2)
+bounds-behaviors-start c = omega (arith, c.requires.0.starts_below c.loop-e.e c.loop-e-test.true, c.requires.2)
 
 pub bounds-edge_behaviors-e : goal.bounds-edge_behaviors-e
-bounds-edge_behaviors-e c = omega (arith, c.loop-e.invariant.5.size, c.requires.0.behaviors-room)
+bounds-edge_behaviors-e c = omega (arith, c.loop-e.invariant.5.size, c.requires.0.behaviors_room)
 
 pub loop-e-preserved : goal.loop-e-preserved
-loop-e-preserved c = (omega arith, made_more _ 0 _ c.loop-e.e c.loop-e.e _ _ (omega arith) (omega (arith, c.requires.0.sources-room)) refl c.loop-e.invariant.1, made_more _ 0 _ c.loop-e.e c.loop-e.e _ _ (omega arith) (omega (arith, c.requires.0.sinks-room)) refl c.loop-e.invariant.2, made_more _ 0 _ c.loop-e.e c.loop-e.e _ _ (omega arith) (omega (arith, c.requires.0.minimums-room)) refl c.loop-e.invariant.3, made_more _ 0 _ c.loop-e.e c.loop-e.e _ _ (omega arith) (omega (arith, c.requires.0.maximums-room)) refl c.loop-e.invariant.4, made_more _ 0 _ c.loop-e.e c.loop-e.e _ _ (omega arith) (omega (arith, c.requires.0.behaviors-room)) refl c.loop-e.invariant.5)
+loop-e-preserved c = (omega arith, made_more _ 0 _ c.loop-e.e c.loop-e.e _ _ (omega arith) (omega (arith, c.requires.0.sources_room)) refl c.loop-e.invariant.1, made_more _ 0 _ c.loop-e.e c.loop-e.e _ _ (omega arith) (omega (arith, c.requires.0.sinks_room)) refl c.loop-e.invariant.2, made_more _ 0 _ c.loop-e.e c.loop-e.e _ _ (omega arith) (omega (arith, c.requires.0.minimums_room)) refl c.loop-e.invariant.3, made_more _ 0 _ c.loop-e.e c.loop-e.e _ _ (omega arith) (omega (arith, c.requires.0.maximums_room)) refl c.loop-e.invariant.4, made_more _ 0 _ c.loop-e.e c.loop-e.e _ _ (omega arith) (omega (arith, c.requires.0.behaviors_room)) refl c.loop-e.invariant.5)
 
 pub shape_of-edge_sources : goal.shape_of-edge_sources
 shape_of-edge_sources c = c.loop-e.invariant.1.size

@@ -42,8 +42,8 @@ returns c =
       ticks = l.ticks;
       components = l.components;
       powered = l.powered;
-      ticks-made = l.invariant.ticks;
-      components-made = l.invariant.components;
-      powered-made = l.invariant.powered;
+      ticks_made = l.invariant.ticks;
+      components_made = l.invariant.components;
+      powered_made = l.invariant.powered;
     })
     (done ∙ c.fitting-kept.ensures)

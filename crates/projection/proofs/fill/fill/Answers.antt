@@ -3,7 +3,7 @@ use native.Mathlib.Omega.{arith}
 use lib.ListN.{get_or}
 use Rattle.projection.specs.Projecting.{projected_lists}
 use Rattle.projection.specs.Walking.{net}
-use Rattle.projection.proofs.FillSteps.{filled_none, filled_more, filled-all, first_edge, next-room, keeps-sources, keeps-sinks, keeps-inverted, keeps-minimums, keeps-maximums, keeps-starts, keeps-lengths, keeps-ids}
+use Rattle.projection.proofs.FillSteps.{filled_none, filled_more, filled-all, first_edge, next_room, keeps-sources, keeps-sinks, keeps-inverted, keeps-minimums, keeps-maximums, keeps-starts, keeps-lengths, keeps-ids}
 use Rattle.projection.proofs.fill.fill.Goals as goal
 
 pub loop-k-init : goal.loop-k-init
@@ -21,7 +21,7 @@ pub walk-walked-requires : goal.walk-walked-requires
 walk-walked-requires c =
     let args = c.args in
     let pre = c.requires in
-    (pre.0, first_edge (net args.sources.now args.sinks.now args.marks.now args.ids.now args.low.now args.high.now args.inverts.now) args.firsts.now (projected_lists args.projected_sources.now args.projected_sinks.now args.projected_inverted.now args.projected_minimums.now args.projected_maximums.now args.projected_starts.now args.projected_lengths.now args.path_ids.now) pre.1 c.loop-k.k c.loop-k.invariant.0 (projected_lists c.loop-k.projected_sources c.loop-k.projected_sinks c.loop-k.projected_inverted c.loop-k.projected_minimums c.loop-k.projected_maximums c.loop-k.projected_starts c.loop-k.projected_lengths c.loop-k.path_ids) c.loop-k.end c.loop-k.invariant.1 c.loop-k-test.true, next-room (net args.sources.now args.sinks.now args.marks.now args.ids.now args.low.now args.high.now args.inverts.now) args.firsts.now (projected_lists args.projected_sources.now args.projected_sinks.now args.projected_inverted.now args.projected_minimums.now args.projected_maximums.now args.projected_starts.now args.projected_lengths.now args.path_ids.now) pre.1 c.loop-k.k c.loop-k.invariant.0 (projected_lists c.loop-k.projected_sources c.loop-k.projected_sinks c.loop-k.projected_inverted c.loop-k.projected_minimums c.loop-k.projected_maximums c.loop-k.projected_starts c.loop-k.projected_lengths c.loop-k.path_ids) c.loop-k.end c.loop-k.invariant.1 c.loop-k-test.true)
+    (pre.0, first_edge (net args.sources.now args.sinks.now args.marks.now args.ids.now args.low.now args.high.now args.inverts.now) args.firsts.now (projected_lists args.projected_sources.now args.projected_sinks.now args.projected_inverted.now args.projected_minimums.now args.projected_maximums.now args.projected_starts.now args.projected_lengths.now args.path_ids.now) pre.1 c.loop-k.k c.loop-k.invariant.0 (projected_lists c.loop-k.projected_sources c.loop-k.projected_sinks c.loop-k.projected_inverted c.loop-k.projected_minimums c.loop-k.projected_maximums c.loop-k.projected_starts c.loop-k.projected_lengths c.loop-k.path_ids) c.loop-k.end c.loop-k.invariant.1 c.loop-k-test.true, next_room (net args.sources.now args.sinks.now args.marks.now args.ids.now args.low.now args.high.now args.inverts.now) args.firsts.now (projected_lists args.projected_sources.now args.projected_sinks.now args.projected_inverted.now args.projected_minimums.now args.projected_maximums.now args.projected_starts.now args.projected_lengths.now args.path_ids.now) pre.1 c.loop-k.k c.loop-k.invariant.0 (projected_lists c.loop-k.projected_sources c.loop-k.projected_sinks c.loop-k.projected_inverted c.loop-k.projected_minimums c.loop-k.projected_maximums c.loop-k.projected_starts c.loop-k.projected_lengths c.loop-k.path_ids) c.loop-k.end c.loop-k.invariant.1 c.loop-k-test.true)
 
 pub offset_bounds-sources-first : goal.offset_bounds-sources-first
 offset_bounds-sources-first c =

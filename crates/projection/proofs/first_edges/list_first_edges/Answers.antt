@@ -1,6 +1,6 @@
 -- `list_first_edges` lists the chains of the retained nodes. Assumes nothing.
 use native.Mathlib.Omega.{arith}
-use Rattle.projection.proofs.ListSteps.{firsts-none, firsts-length, firsts_same, firsts-room, firsts_more, firsts-all}
+use Rattle.projection.proofs.ListSteps.{firsts-none, firsts-length, firsts_same, firsts_room, firsts_more, firsts-all}
 use Rattle.projection.proofs.first_edges.list_first_edges.Goals as goal
 
 pub loop-i-init : goal.loop-i-init
@@ -26,7 +26,7 @@ list_chain-count-requires c =
     let loop = c.loop-i in
     let args = c.args in
     let pre = c.requires in
-    (pre.rises, firsts-room args.head.now args.next.now args.marks.now args.order.now args.firsts.now (pre) loop.i loop.firsts loop.count loop.invariant.1 c.loop-i-test.true c.if-marks-v-ne0.true)
+    (pre.rises, firsts_room args.head.now args.next.now args.marks.now args.order.now args.firsts.now (pre) loop.i loop.firsts loop.count loop.invariant.1 c.loop-i-test.true c.if-marks-v-ne0.true)
 
 pub loop-i-smaller-then-marks-v-ne0 : goal.loop-i-smaller-then-marks-v-ne0
 loop-i-smaller-then-marks-v-ne0 c = omega (arith, c.loop-i-test.true)

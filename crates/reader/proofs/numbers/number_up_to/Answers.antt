@@ -1,7 +1,7 @@
 -- `number_up_to` reads digit by digit. Assumes nothing.
 use mathlib.Core.Path.{sym, ◌∙◌}
 use native.Mathlib.Omega.{arith}
-use Rattle.reader.proofs.NumberSteps.{stops-below, stops-above, stops-large, goes_on, ends, number-empty, number-leads, number-starts}
+use Rattle.reader.proofs.NumberSteps.{stops_below, stops-above, stops-large, goes_on, ends, number-empty, number-leads, number-starts}
 use Rattle.reader.proofs.numbers.number_up_to.Goals as goal
 
 pub returns-then-digits-eq0 : goal.returns-then-digits-eq0
@@ -21,7 +21,7 @@ returns-then-byte-lt48 c =
     let d = a.digits.now in
     let m = a.most in
     let l = c.loop-i in
-    sym (l.invariant.2 ∙ stops-below d m l.value l.i c.loop-i-test.true c.if-byte-lt48.true)
+    sym (l.invariant.2 ∙ stops_below d m l.value l.i c.loop-i-test.true c.if-byte-lt48.true)
 
 pub returns-then-byte-gt57 : goal.returns-then-byte-gt57
 returns-then-byte-gt57 c =

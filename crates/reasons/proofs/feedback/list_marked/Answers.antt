@@ -11,10 +11,10 @@ pub loop-i-init : goal.loop-i-init
 loop-i-init c = (listed_start c.args.ids.now c.args.kinds.now c.args.marks.now c.args.feedback_ids.now, omega arith, refl)
 
 pub bounds-kinds-i : goal.bounds-kinds-i
-bounds-kinds-i c = omega (arith, c.requires.kinds-length)
+bounds-kinds-i c = omega (arith, c.requires.kinds_length)
 
 pub bounds-marks-i : goal.bounds-marks-i
-bounds-marks-i c = omega (arith, c.requires.marks-room)
+bounds-marks-i c = omega (arith, c.requires.marks_room)
 
 pub list_id-count-requires : goal.list_id-count-requires
 list_id-count-requires c = omega (arith, c.loop-i.invariant.0.few, c.requires.room, c.loop-i.invariant.2)

@@ -27,16 +27,16 @@ pub shape_of-reason_kinds : goal.shape_of-reason_kinds
 shape_of-reason_kinds c = (own-kept c.args.ids.now c.args.kinds.now c.args.locked.now c.put_reason-count.result _ (looped-room c.args.ids.now c.args.kinds.now c.args.locked.now c.args.feedback c.requires.2 c.put_reason-count.ensures) c.loop-i.i c.loop-i.count c.loop-i.invariant.0 c.loop-i.invariant.1).kinds_kept ∙ c.put_reason-count.auto.kinds
 
 pub shape_of-reason_components : goal.shape_of-reason_components
-shape_of-reason_components c = (own-kept c.args.ids.now c.args.kinds.now c.args.locked.now c.put_reason-count.result _ (looped-room c.args.ids.now c.args.kinds.now c.args.locked.now c.args.feedback c.requires.2 c.put_reason-count.ensures) c.loop-i.i c.loop-i.count c.loop-i.invariant.0 c.loop-i.invariant.1).components-kept ∙ c.put_reason-count.auto.components
+shape_of-reason_components c = (own-kept c.args.ids.now c.args.kinds.now c.args.locked.now c.put_reason-count.result _ (looped-room c.args.ids.now c.args.kinds.now c.args.locked.now c.args.feedback c.requires.2 c.put_reason-count.ensures) c.loop-i.i c.loop-i.count c.loop-i.invariant.0 c.loop-i.invariant.1).components_kept ∙ c.put_reason-count.auto.components
 
 pub shape_of-reason_blocks : goal.shape_of-reason_blocks
-shape_of-reason_blocks c = (own-kept c.args.ids.now c.args.kinds.now c.args.locked.now c.put_reason-count.result _ (looped-room c.args.ids.now c.args.kinds.now c.args.locked.now c.args.feedback c.requires.2 c.put_reason-count.ensures) c.loop-i.i c.loop-i.count c.loop-i.invariant.0 c.loop-i.invariant.1).blocks-kept ∙ c.put_reason-count.auto.blocks
+shape_of-reason_blocks c = (own-kept c.args.ids.now c.args.kinds.now c.args.locked.now c.put_reason-count.result _ (looped-room c.args.ids.now c.args.kinds.now c.args.locked.now c.args.feedback c.requires.2 c.put_reason-count.ensures) c.loop-i.i c.loop-i.count c.loop-i.invariant.0 c.loop-i.invariant.1).blocks_kept ∙ c.put_reason-count.auto.blocks
 
 pub shape_of-reason_minimums : goal.shape_of-reason_minimums
-shape_of-reason_minimums c = (own-kept c.args.ids.now c.args.kinds.now c.args.locked.now c.put_reason-count.result _ (looped-room c.args.ids.now c.args.kinds.now c.args.locked.now c.args.feedback c.requires.2 c.put_reason-count.ensures) c.loop-i.i c.loop-i.count c.loop-i.invariant.0 c.loop-i.invariant.1).minimums-kept ∙ c.put_reason-count.auto.minimums
+shape_of-reason_minimums c = (own-kept c.args.ids.now c.args.kinds.now c.args.locked.now c.put_reason-count.result _ (looped-room c.args.ids.now c.args.kinds.now c.args.locked.now c.args.feedback c.requires.2 c.put_reason-count.ensures) c.loop-i.i c.loop-i.count c.loop-i.invariant.0 c.loop-i.invariant.1).minimums_kept ∙ c.put_reason-count.auto.minimums
 
 pub shape_of-reason_maximums : goal.shape_of-reason_maximums
-shape_of-reason_maximums c = (own-kept c.args.ids.now c.args.kinds.now c.args.locked.now c.put_reason-count.result _ (looped-room c.args.ids.now c.args.kinds.now c.args.locked.now c.args.feedback c.requires.2 c.put_reason-count.ensures) c.loop-i.i c.loop-i.count c.loop-i.invariant.0 c.loop-i.invariant.1).maximums-kept ∙ c.put_reason-count.auto.maximums
+shape_of-reason_maximums c = (own-kept c.args.ids.now c.args.kinds.now c.args.locked.now c.put_reason-count.result _ (looped-room c.args.ids.now c.args.kinds.now c.args.locked.now c.args.feedback c.requires.2 c.put_reason-count.ensures) c.loop-i.i c.loop-i.count c.loop-i.invariant.0 c.loop-i.invariant.1).maximums_kept ∙ c.put_reason-count.auto.maximums
 
 pub returns : goal.returns
 returns c = temporal-listed c.args.ids.now c.args.kinds.now c.args.locked.now c.args.feedback c.requires.2 c.put_reason-count.ensures (length c.args.ids.now) c.loop-i.i (omega arith) c.loop-i.invariant.0

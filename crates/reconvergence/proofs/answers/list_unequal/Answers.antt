@@ -44,7 +44,7 @@ pub loop-i-smaller : goal.loop-i-smaller
 loop-i-smaller c = omega (arith, c.loop-i-test.true)
 
 pub loop-i-preserved : goal.loop-i-preserved
-loop-i-preserved c = listed-no _ _ _ c.loop-i.invariant c.loop-i-test.true c.requires.3 (sym c.is_unequal.ensures ∙ c.if-is_unequal.false)
+loop-i-preserved c = listed-no _ _ _ c.loop-i.invariant c.loop-i-test.true (sym c.is_unequal.ensures ∙ c.if-is_unequal.false)
 
 pub shape_of-unequal : goal.shape_of-unequal
 shape_of-unequal c = c.loop-i.invariant.size

@@ -6,11 +6,11 @@ use Rattle.scene.proofs.positions.hand_on.Goals as goal
 
 -- src/positions.rt:65:17
 pub slice_bounds-write_front-end : goal.slice_bounds-write_front-end
-slice_bounds-write_front-end c = sym (length-take-le c.args.n c.args.own_order.now c.requires.0.order-fits)
+slice_bounds-write_front-end c = sym (length-take-le c.args.n c.args.own_order.now c.requires.0.order_fits)
 
 -- src/positions.rt:65:5
 pub write_front-requires : goal.write_front-requires
-write_front-requires c = omega (arith, length-take-le c.args.n c.args.own_order.now c.requires.0.order-fits, c.requires.1.order-fits)
+write_front-requires c = omega (arith, length-take-le c.args.n c.args.own_order.now c.requires.0.order_fits, c.requires.1.order_fits)
 
 -- src/positions.rt:66:17
 pub slice_bounds-write_front-end-2 : goal.slice_bounds-write_front-end-2
@@ -22,11 +22,11 @@ write_front-requires-2 c = omega (arith, length-take-le c.args.edges c.args.own_
 
 -- src/positions.rt:67:17
 pub slice_bounds-write_front-end-3 : goal.slice_bounds-write_front-end-3
-slice_bounds-write_front-end-3 c = sym (length-take-le c.args.edges c.args.own_stops.now c.requires.0.stops-fit)
+slice_bounds-write_front-end-3 c = sym (length-take-le c.args.edges c.args.own_stops.now c.requires.0.stops_fit)
 
 -- src/positions.rt:67:5
 pub write_front-requires-3 : goal.write_front-requires-3
-write_front-requires-3 c = omega (arith, length-take-le c.args.edges c.args.own_stops.now c.requires.0.stops-fit, c.requires.1.stops-fit)
+write_front-requires-3 c = omega (arith, length-take-le c.args.edges c.args.own_stops.now c.requires.0.stops_fit, c.requires.1.stops_fit)
 
 -- src/positions.rt:50:1
 pub returns : goal.returns

@@ -10,19 +10,19 @@ pub loop-i-init : goal.loop-i-init
 loop-i-init c = (omega arith, rows_none _ _ _ _ c.requires.room)
 
 pub bounds-settled-i : goal.bounds-settled-i
-bounds-settled-i c = omega (arith, c.requires.labels_within.settled-within)
+bounds-settled-i c = omega (arith, c.requires.labels_within.settled_within)
 
 pub offset_bounds-lows-i : goal.offset_bounds-lows-i
-offset_bounds-lows-i c = omega (arith, c.requires.labels_within.lows-within)
+offset_bounds-lows-i c = omega (arith, c.requires.labels_within.lows_within)
 
 pub bounds-lows-i : goal.bounds-lows-i
-bounds-lows-i c = omega (arith, c.requires.labels_within.lows-within)
+bounds-lows-i c = omega (arith, c.requires.labels_within.lows_within)
 
 pub offset_bounds-highs-i : goal.offset_bounds-highs-i
-offset_bounds-highs-i c = omega (arith, c.requires.labels_within.highs-within)
+offset_bounds-highs-i c = omega (arith, c.requires.labels_within.highs_within)
 
 pub bounds-highs-i : goal.bounds-highs-i
-bounds-highs-i c = omega (arith, c.requires.labels_within.highs-within)
+bounds-highs-i c = omega (arith, c.requires.labels_within.highs_within)
 
 pub put_label-end-requires : goal.put_label-end-requires
 unfolding label_row

@@ -10,31 +10,31 @@ pub loop-i-init : goal.loop-i-init
 loop-i-init c = (omega arith, rows_none _ _ _ _ c.requires.room)
 
 pub offset_bounds-sources-i : goal.offset_bounds-sources-i
-offset_bounds-sources-i c = omega (arith, c.requires.edges_within.sources-within)
+offset_bounds-sources-i c = omega (arith, c.requires.edges_within.sources_within)
 
 pub bounds-sources-i : goal.bounds-sources-i
-bounds-sources-i c = omega (arith, c.requires.edges_within.sources-within)
+bounds-sources-i c = omega (arith, c.requires.edges_within.sources_within)
 
 pub offset_bounds-sinks-i : goal.offset_bounds-sinks-i
-offset_bounds-sinks-i c = omega (arith, c.requires.edges_within.sinks-within)
+offset_bounds-sinks-i c = omega (arith, c.requires.edges_within.sinks_within)
 
 pub bounds-sinks-i : goal.bounds-sinks-i
-bounds-sinks-i c = omega (arith, c.requires.edges_within.sinks-within)
+bounds-sinks-i c = omega (arith, c.requires.edges_within.sinks_within)
 
 pub bounds-inverted-i : goal.bounds-inverted-i
-bounds-inverted-i c = omega (arith, c.requires.edges_within.inverted-within)
+bounds-inverted-i c = omega (arith, c.requires.edges_within.inverted_within)
 
 pub offset_bounds-minimums-i : goal.offset_bounds-minimums-i
-offset_bounds-minimums-i c = omega (arith, c.requires.edges_within.minimums-within)
+offset_bounds-minimums-i c = omega (arith, c.requires.edges_within.minimums_within)
 
 pub bounds-minimums-i : goal.bounds-minimums-i
-bounds-minimums-i c = omega (arith, c.requires.edges_within.minimums-within)
+bounds-minimums-i c = omega (arith, c.requires.edges_within.minimums_within)
 
 pub offset_bounds-maximums-i : goal.offset_bounds-maximums-i
-offset_bounds-maximums-i c = omega (arith, c.requires.edges_within.maximums-within)
+offset_bounds-maximums-i c = omega (arith, c.requires.edges_within.maximums_within)
 
 pub bounds-maximums-i : goal.bounds-maximums-i
-bounds-maximums-i c = omega (arith, c.requires.edges_within.maximums-within)
+bounds-maximums-i c = omega (arith, c.requires.edges_within.maximums_within)
 
 pub put_projected-end-requires : goal.put_projected-end-requires
 unfolding projected_row stored_edge

@@ -9,25 +9,25 @@ pub loop-i-init : goal.loop-i-init
 loop-i-init c = (omega arith, rows_none _ _ _ _ c.requires.room)
 
 pub bounds-kinds-i : goal.bounds-kinds-i
-bounds-kinds-i c = omega (arith, c.requires.reasons_within.kinds-within)
+bounds-kinds-i c = omega (arith, c.requires.reasons_within.kinds_within)
 
 pub offset_bounds-components-i : goal.offset_bounds-components-i
-offset_bounds-components-i c = omega (arith, c.requires.reasons_within.components-within)
+offset_bounds-components-i c = omega (arith, c.requires.reasons_within.components_within)
 
 pub bounds-components-i : goal.bounds-components-i
-bounds-components-i c = omega (arith, c.requires.reasons_within.components-within)
+bounds-components-i c = omega (arith, c.requires.reasons_within.components_within)
 
 pub offset_bounds-minimums-i : goal.offset_bounds-minimums-i
-offset_bounds-minimums-i c = omega (arith, c.requires.reasons_within.minimums-within)
+offset_bounds-minimums-i c = omega (arith, c.requires.reasons_within.minimums_within)
 
 pub bounds-minimums-i : goal.bounds-minimums-i
-bounds-minimums-i c = omega (arith, c.requires.reasons_within.minimums-within)
+bounds-minimums-i c = omega (arith, c.requires.reasons_within.minimums_within)
 
 pub offset_bounds-maximums-i : goal.offset_bounds-maximums-i
-offset_bounds-maximums-i c = omega (arith, c.requires.reasons_within.maximums-within)
+offset_bounds-maximums-i c = omega (arith, c.requires.reasons_within.maximums_within)
 
 pub bounds-maximums-i : goal.bounds-maximums-i
-bounds-maximums-i c = omega (arith, c.requires.reasons_within.maximums-within)
+bounds-maximums-i c = omega (arith, c.requires.reasons_within.maximums_within)
 
 pub put_reason-end-requires : goal.put_reason-end-requires
 unfolding reason_row

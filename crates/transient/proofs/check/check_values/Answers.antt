@@ -9,7 +9,7 @@ pub returns-then-unit-gt1 : goal.returns-then-unit-gt1
 returns-then-unit-gt1 c = unit-out (trace_lists c.args.unit (event_lists c.args.ticks.now c.args.components.now c.args.powered.now) (contract_lists c.args.contract_components.now c.args.contract_intents.now c.args.contract_powered.now c.args.contract_polarities.now c.args.contract_units.now c.args.contract_smallest.now c.args.contract_largest.now)) c.if-unit-gt1.true
 
 pub check_events-events-requires : goal.check_events-events-requires
-check_events-events-requires c = c.requires.0.powered-length
+check_events-events-requires c = c.requires.0.powered_length
 
 pub check_contracts-requires : goal.check_contracts-requires
 check_contracts-requires c = c.requires.1

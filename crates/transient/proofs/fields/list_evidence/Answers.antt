@@ -14,16 +14,16 @@ pub loop-j-init : goal.loop-j-init
 loop-j-init c = (omega arith, made_none _ _ _, made_none _ _ _, made_none _ _ _, made_none _ _ _)
 
 pub offset_bounds-row-k : goal.offset_bounds-row-k
-offset_bounds-row-k c = omega (arith, window-in c.requires.0 c.loop-j.j c.loop-j-test.true, first-in c.requires.0 c.loop-j.j c.loop-j-test.true, second-in c.requires.0 c.loop-j.j c.loop-j-test.true, third-in c.requires.0 c.loop-j.j c.loop-j-test.true, c.requires.0.row_inside.components-length, c.requires.0.row_inside.powered-length)
+offset_bounds-row-k c = omega (arith, window-in c.requires.0 c.loop-j.j c.loop-j-test.true, first-in c.requires.0 c.loop-j.j c.loop-j-test.true, second-in c.requires.0 c.loop-j.j c.loop-j-test.true, third-in c.requires.0 c.loop-j.j c.loop-j-test.true, c.requires.0.row_inside.components_length, c.requires.0.row_inside.powered_length)
 
 pub bounds-row-k : goal.bounds-row-k
-bounds-row-k c = omega (arith, window-in c.requires.0 c.loop-j.j c.loop-j-test.true, first-in c.requires.0 c.loop-j.j c.loop-j-test.true, second-in c.requires.0 c.loop-j.j c.loop-j-test.true, third-in c.requires.0 c.loop-j.j c.loop-j-test.true, c.requires.0.row_inside.components-length, c.requires.0.row_inside.powered-length)
+bounds-row-k c = omega (arith, window-in c.requires.0 c.loop-j.j c.loop-j-test.true, first-in c.requires.0 c.loop-j.j c.loop-j-test.true, second-in c.requires.0 c.loop-j.j c.loop-j-test.true, third-in c.requires.0 c.loop-j.j c.loop-j-test.true, c.requires.0.row_inside.components_length, c.requires.0.row_inside.powered_length)
 
 pub overflow_add-at : goal.overflow_add-at
 overflow_add-at c = omega (arith, c.loop-j.invariant.1.size, c.requires.1)
 
 pub bounds-powered-first : goal.bounds-powered-first
-bounds-powered-first c = omega (arith, window-in c.requires.0 c.loop-j.j c.loop-j-test.true, first-in c.requires.0 c.loop-j.j c.loop-j-test.true, second-in c.requires.0 c.loop-j.j c.loop-j-test.true, third-in c.requires.0 c.loop-j.j c.loop-j-test.true, c.requires.0.row_inside.components-length, c.requires.0.row_inside.powered-length)
+bounds-powered-first c = omega (arith, window-in c.requires.0 c.loop-j.j c.loop-j-test.true, first-in c.requires.0 c.loop-j.j c.loop-j-test.true, second-in c.requires.0 c.loop-j.j c.loop-j-test.true, third-in c.requires.0 c.loop-j.j c.loop-j-test.true, c.requires.0.row_inside.components_length, c.requires.0.row_inside.powered_length)
 
 pub bounds-finding_steady-at : goal.bounds-finding_steady-at
 bounds-finding_steady-at c = omega (arith, c.loop-j.invariant.1.size, c.requires.1)
@@ -35,13 +35,13 @@ pub bounds-finding_baselines-at : goal.bounds-finding_baselines-at
 bounds-finding_baselines-at c = omega (arith, c.loop-j.invariant.2.size, c.requires.2)
 
 pub overflow_add-finding_starts : goal.overflow_add-finding_starts
-overflow_add-finding_starts c = omega (arith, window-in c.requires.0 c.loop-j.j c.loop-j-test.true, first-in c.requires.0 c.loop-j.j c.loop-j-test.true, second-in c.requires.0 c.loop-j.j c.loop-j-test.true, third-in c.requires.0 c.loop-j.j c.loop-j-test.true, c.requires.0.row_inside.components-length, c.requires.0.row_inside.powered-length)
+overflow_add-finding_starts c = omega (arith, window-in c.requires.0 c.loop-j.j c.loop-j-test.true, first-in c.requires.0 c.loop-j.j c.loop-j-test.true, second-in c.requires.0 c.loop-j.j c.loop-j-test.true, third-in c.requires.0 c.loop-j.j c.loop-j-test.true, c.requires.0.row_inside.components_length, c.requires.0.row_inside.powered_length)
 
 pub offset_bounds-row-k-in-loop-j : goal.offset_bounds-row-k-in-loop-j
-offset_bounds-row-k-in-loop-j c = omega (arith, window-in c.requires.0 c.loop-j.j c.loop-j-test.true, first-in c.requires.0 c.loop-j.j c.loop-j-test.true, second-in c.requires.0 c.loop-j.j c.loop-j-test.true, third-in c.requires.0 c.loop-j.j c.loop-j-test.true, c.requires.0.row_inside.components-length, c.requires.0.row_inside.powered-length)
+offset_bounds-row-k-in-loop-j c = omega (arith, window-in c.requires.0 c.loop-j.j c.loop-j-test.true, first-in c.requires.0 c.loop-j.j c.loop-j-test.true, second-in c.requires.0 c.loop-j.j c.loop-j-test.true, third-in c.requires.0 c.loop-j.j c.loop-j-test.true, c.requires.0.row_inside.components_length, c.requires.0.row_inside.powered_length)
 
 pub bounds-row-k-in-loop-j : goal.bounds-row-k-in-loop-j
-bounds-row-k-in-loop-j c = omega (arith, window-in c.requires.0 c.loop-j.j c.loop-j-test.true, first-in c.requires.0 c.loop-j.j c.loop-j-test.true, second-in c.requires.0 c.loop-j.j c.loop-j-test.true, third-in c.requires.0 c.loop-j.j c.loop-j-test.true, c.requires.0.row_inside.components-length, c.requires.0.row_inside.powered-length)
+bounds-row-k-in-loop-j c = omega (arith, window-in c.requires.0 c.loop-j.j c.loop-j-test.true, first-in c.requires.0 c.loop-j.j c.loop-j-test.true, second-in c.requires.0 c.loop-j.j c.loop-j-test.true, third-in c.requires.0 c.loop-j.j c.loop-j-test.true, c.requires.0.row_inside.components_length, c.requires.0.row_inside.powered_length)
 
 pub offset_bounds-finding_starts-at : goal.offset_bounds-finding_starts-at
 offset_bounds-finding_starts-at c = omega (arith, c.loop-j.invariant.3.size, c.requires.3)
@@ -50,13 +50,13 @@ pub bounds-finding_starts-at : goal.bounds-finding_starts-at
 bounds-finding_starts-at c = omega (arith, c.loop-j.invariant.3.size, c.requires.3)
 
 pub overflow_add-finding_ends : goal.overflow_add-finding_ends
-overflow_add-finding_ends c = omega (arith, window-in c.requires.0 c.loop-j.j c.loop-j-test.true, first-in c.requires.0 c.loop-j.j c.loop-j-test.true, second-in c.requires.0 c.loop-j.j c.loop-j-test.true, third-in c.requires.0 c.loop-j.j c.loop-j-test.true, c.requires.0.row_inside.components-length, c.requires.0.row_inside.powered-length)
+overflow_add-finding_ends c = omega (arith, window-in c.requires.0 c.loop-j.j c.loop-j-test.true, first-in c.requires.0 c.loop-j.j c.loop-j-test.true, second-in c.requires.0 c.loop-j.j c.loop-j-test.true, third-in c.requires.0 c.loop-j.j c.loop-j-test.true, c.requires.0.row_inside.components_length, c.requires.0.row_inside.powered_length)
 
 pub offset_bounds-row-k-in-loop-j-2 : goal.offset_bounds-row-k-in-loop-j-2
-offset_bounds-row-k-in-loop-j-2 c = omega (arith, window-in c.requires.0 c.loop-j.j c.loop-j-test.true, first-in c.requires.0 c.loop-j.j c.loop-j-test.true, second-in c.requires.0 c.loop-j.j c.loop-j-test.true, third-in c.requires.0 c.loop-j.j c.loop-j-test.true, c.requires.0.row_inside.components-length, c.requires.0.row_inside.powered-length)
+offset_bounds-row-k-in-loop-j-2 c = omega (arith, window-in c.requires.0 c.loop-j.j c.loop-j-test.true, first-in c.requires.0 c.loop-j.j c.loop-j-test.true, second-in c.requires.0 c.loop-j.j c.loop-j-test.true, third-in c.requires.0 c.loop-j.j c.loop-j-test.true, c.requires.0.row_inside.components_length, c.requires.0.row_inside.powered_length)
 
 pub bounds-row-k-in-loop-j-2 : goal.bounds-row-k-in-loop-j-2
-bounds-row-k-in-loop-j-2 c = omega (arith, window-in c.requires.0 c.loop-j.j c.loop-j-test.true, first-in c.requires.0 c.loop-j.j c.loop-j-test.true, second-in c.requires.0 c.loop-j.j c.loop-j-test.true, third-in c.requires.0 c.loop-j.j c.loop-j-test.true, c.requires.0.row_inside.components-length, c.requires.0.row_inside.powered-length)
+bounds-row-k-in-loop-j-2 c = omega (arith, window-in c.requires.0 c.loop-j.j c.loop-j-test.true, first-in c.requires.0 c.loop-j.j c.loop-j-test.true, second-in c.requires.0 c.loop-j.j c.loop-j-test.true, third-in c.requires.0 c.loop-j.j c.loop-j-test.true, c.requires.0.row_inside.components_length, c.requires.0.row_inside.powered_length)
 
 pub offset_bounds-finding_ends-at : goal.offset_bounds-finding_ends-at
 offset_bounds-finding_ends-at c = omega (arith, c.loop-j.invariant.4.size, c.requires.4)
@@ -81,4 +81,4 @@ pub shape_of-finding_ends : goal.shape_of-finding_ends
 shape_of-finding_ends c = c.loop-j.invariant.4.size
 
 pub returns : goal.returns
-returns c = record { steady-written = made_all (λ k. cond (pulse_at (unit_of 0) (event_lists c.args.ticks.now c.args.components.now c.args.powered.now) c.args.row.now k).steady 1 0) c.args.places.now 0 c.args.start _ _ c.loop-j.j (omega arith) c.loop-j.invariant.1; baselines-written = made_all (λ k. (pulse_at (unit_of 0) (event_lists c.args.ticks.now c.args.components.now c.args.powered.now) c.args.row.now k).baseline_event) c.args.places.now 0 c.args.start _ _ c.loop-j.j (omega arith) c.loop-j.invariant.2; starts-written = made_all (λ k. (pulse_at (unit_of 0) (event_lists c.args.ticks.now c.args.components.now c.args.powered.now) c.args.row.now k).start_event) c.args.places.now 0 c.args.start _ _ c.loop-j.j (omega arith) c.loop-j.invariant.3; ends-written = made_all (λ k. (pulse_at (unit_of 0) (event_lists c.args.ticks.now c.args.components.now c.args.powered.now) c.args.row.now k).end_event) c.args.places.now 0 c.args.start _ _ c.loop-j.j (omega arith) c.loop-j.invariant.4 }
+returns c = record { steady_written = made_all (λ k. cond (pulse_at (unit_of 0) (event_lists c.args.ticks.now c.args.components.now c.args.powered.now) c.args.row.now k).steady 1 0) c.args.places.now 0 c.args.start _ _ c.loop-j.j (omega arith) c.loop-j.invariant.1; baselines_written = made_all (λ k. (pulse_at (unit_of 0) (event_lists c.args.ticks.now c.args.components.now c.args.powered.now) c.args.row.now k).baseline_event) c.args.places.now 0 c.args.start _ _ c.loop-j.j (omega arith) c.loop-j.invariant.2; starts_written = made_all (λ k. (pulse_at (unit_of 0) (event_lists c.args.ticks.now c.args.components.now c.args.powered.now) c.args.row.now k).start_event) c.args.places.now 0 c.args.start _ _ c.loop-j.j (omega arith) c.loop-j.invariant.3; ends_written = made_all (λ k. (pulse_at (unit_of 0) (event_lists c.args.ticks.now c.args.components.now c.args.powered.now) c.args.row.now k).end_event) c.args.places.now 0 c.args.start _ _ c.loop-j.j (omega arith) c.loop-j.invariant.4 }

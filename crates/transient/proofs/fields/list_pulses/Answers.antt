@@ -13,31 +13,31 @@ pub loop-j-init : goal.loop-j-init
 loop-j-init c = (omega arith, made_none _ _ _, made_none _ _ _, made_none _ _ _, made_none _ _ _, made_none _ _ _, made_none _ _ _)
 
 pub overflow_add-second : goal.overflow_add-second
-overflow_add-second c = omega (arith, window-in c.requires.0 c.loop-j.j c.loop-j-test.true, first-in c.requires.0 c.loop-j.j c.loop-j-test.true, second-in c.requires.0 c.loop-j.j c.loop-j-test.true, third-in c.requires.0 c.loop-j.j c.loop-j-test.true, c.requires.0.row_inside.components-length, c.requires.0.row_inside.powered-length)
+overflow_add-second c = omega (arith, window-in c.requires.0 c.loop-j.j c.loop-j-test.true, first-in c.requires.0 c.loop-j.j c.loop-j-test.true, second-in c.requires.0 c.loop-j.j c.loop-j-test.true, third-in c.requires.0 c.loop-j.j c.loop-j-test.true, c.requires.0.row_inside.components_length, c.requires.0.row_inside.powered_length)
 
 pub offset_bounds-row-k : goal.offset_bounds-row-k
-offset_bounds-row-k c = omega (arith, window-in c.requires.0 c.loop-j.j c.loop-j-test.true, first-in c.requires.0 c.loop-j.j c.loop-j-test.true, second-in c.requires.0 c.loop-j.j c.loop-j-test.true, third-in c.requires.0 c.loop-j.j c.loop-j-test.true, c.requires.0.row_inside.components-length, c.requires.0.row_inside.powered-length)
+offset_bounds-row-k c = omega (arith, window-in c.requires.0 c.loop-j.j c.loop-j-test.true, first-in c.requires.0 c.loop-j.j c.loop-j-test.true, second-in c.requires.0 c.loop-j.j c.loop-j-test.true, third-in c.requires.0 c.loop-j.j c.loop-j-test.true, c.requires.0.row_inside.components_length, c.requires.0.row_inside.powered_length)
 
 pub bounds-row-k : goal.bounds-row-k
-bounds-row-k c = omega (arith, window-in c.requires.0 c.loop-j.j c.loop-j-test.true, first-in c.requires.0 c.loop-j.j c.loop-j-test.true, second-in c.requires.0 c.loop-j.j c.loop-j-test.true, third-in c.requires.0 c.loop-j.j c.loop-j-test.true, c.requires.0.row_inside.components-length, c.requires.0.row_inside.powered-length)
+bounds-row-k c = omega (arith, window-in c.requires.0 c.loop-j.j c.loop-j-test.true, first-in c.requires.0 c.loop-j.j c.loop-j-test.true, second-in c.requires.0 c.loop-j.j c.loop-j-test.true, third-in c.requires.0 c.loop-j.j c.loop-j-test.true, c.requires.0.row_inside.components_length, c.requires.0.row_inside.powered_length)
 
 pub overflow_add-third : goal.overflow_add-third
-overflow_add-third c = omega (arith, window-in c.requires.0 c.loop-j.j c.loop-j-test.true, first-in c.requires.0 c.loop-j.j c.loop-j-test.true, second-in c.requires.0 c.loop-j.j c.loop-j-test.true, third-in c.requires.0 c.loop-j.j c.loop-j-test.true, c.requires.0.row_inside.components-length, c.requires.0.row_inside.powered-length)
+overflow_add-third c = omega (arith, window-in c.requires.0 c.loop-j.j c.loop-j-test.true, first-in c.requires.0 c.loop-j.j c.loop-j-test.true, second-in c.requires.0 c.loop-j.j c.loop-j-test.true, third-in c.requires.0 c.loop-j.j c.loop-j-test.true, c.requires.0.row_inside.components_length, c.requires.0.row_inside.powered_length)
 
 pub offset_bounds-row-k-in-loop-j : goal.offset_bounds-row-k-in-loop-j
-offset_bounds-row-k-in-loop-j c = omega (arith, window-in c.requires.0 c.loop-j.j c.loop-j-test.true, first-in c.requires.0 c.loop-j.j c.loop-j-test.true, second-in c.requires.0 c.loop-j.j c.loop-j-test.true, third-in c.requires.0 c.loop-j.j c.loop-j-test.true, c.requires.0.row_inside.components-length, c.requires.0.row_inside.powered-length)
+offset_bounds-row-k-in-loop-j c = omega (arith, window-in c.requires.0 c.loop-j.j c.loop-j-test.true, first-in c.requires.0 c.loop-j.j c.loop-j-test.true, second-in c.requires.0 c.loop-j.j c.loop-j-test.true, third-in c.requires.0 c.loop-j.j c.loop-j-test.true, c.requires.0.row_inside.components_length, c.requires.0.row_inside.powered_length)
 
 pub bounds-row-k-in-loop-j : goal.bounds-row-k-in-loop-j
-bounds-row-k-in-loop-j c = omega (arith, window-in c.requires.0 c.loop-j.j c.loop-j-test.true, first-in c.requires.0 c.loop-j.j c.loop-j-test.true, second-in c.requires.0 c.loop-j.j c.loop-j-test.true, third-in c.requires.0 c.loop-j.j c.loop-j-test.true, c.requires.0.row_inside.components-length, c.requires.0.row_inside.powered-length)
+bounds-row-k-in-loop-j c = omega (arith, window-in c.requires.0 c.loop-j.j c.loop-j-test.true, first-in c.requires.0 c.loop-j.j c.loop-j-test.true, second-in c.requires.0 c.loop-j.j c.loop-j-test.true, third-in c.requires.0 c.loop-j.j c.loop-j-test.true, c.requires.0.row_inside.components_length, c.requires.0.row_inside.powered_length)
 
 pub overflow_add-at : goal.overflow_add-at
 overflow_add-at c = omega (arith, c.loop-j.invariant.1.size, c.requires.2)
 
 pub offset_bounds-components-second : goal.offset_bounds-components-second
-offset_bounds-components-second c = omega (arith, window-in c.requires.0 c.loop-j.j c.loop-j-test.true, first-in c.requires.0 c.loop-j.j c.loop-j-test.true, second-in c.requires.0 c.loop-j.j c.loop-j-test.true, third-in c.requires.0 c.loop-j.j c.loop-j-test.true, c.requires.0.row_inside.components-length, c.requires.0.row_inside.powered-length)
+offset_bounds-components-second c = omega (arith, window-in c.requires.0 c.loop-j.j c.loop-j-test.true, first-in c.requires.0 c.loop-j.j c.loop-j-test.true, second-in c.requires.0 c.loop-j.j c.loop-j-test.true, third-in c.requires.0 c.loop-j.j c.loop-j-test.true, c.requires.0.row_inside.components_length, c.requires.0.row_inside.powered_length)
 
 pub bounds-components-second : goal.bounds-components-second
-bounds-components-second c = omega (arith, window-in c.requires.0 c.loop-j.j c.loop-j-test.true, first-in c.requires.0 c.loop-j.j c.loop-j-test.true, second-in c.requires.0 c.loop-j.j c.loop-j-test.true, third-in c.requires.0 c.loop-j.j c.loop-j-test.true, c.requires.0.row_inside.components-length, c.requires.0.row_inside.powered-length)
+bounds-components-second c = omega (arith, window-in c.requires.0 c.loop-j.j c.loop-j-test.true, first-in c.requires.0 c.loop-j.j c.loop-j-test.true, second-in c.requires.0 c.loop-j.j c.loop-j-test.true, third-in c.requires.0 c.loop-j.j c.loop-j-test.true, c.requires.0.row_inside.components_length, c.requires.0.row_inside.powered_length)
 
 pub offset_bounds-finding_components-at : goal.offset_bounds-finding_components-at
 offset_bounds-finding_components-at c = omega (arith, c.loop-j.invariant.1.size, c.requires.2)
@@ -46,7 +46,7 @@ pub bounds-finding_components-at : goal.bounds-finding_components-at
 bounds-finding_components-at c = omega (arith, c.loop-j.invariant.1.size, c.requires.2)
 
 pub bounds-powered-second : goal.bounds-powered-second
-bounds-powered-second c = omega (arith, window-in c.requires.0 c.loop-j.j c.loop-j-test.true, first-in c.requires.0 c.loop-j.j c.loop-j-test.true, second-in c.requires.0 c.loop-j.j c.loop-j-test.true, third-in c.requires.0 c.loop-j.j c.loop-j-test.true, c.requires.0.row_inside.components-length, c.requires.0.row_inside.powered-length)
+bounds-powered-second c = omega (arith, window-in c.requires.0 c.loop-j.j c.loop-j-test.true, first-in c.requires.0 c.loop-j.j c.loop-j-test.true, second-in c.requires.0 c.loop-j.j c.loop-j-test.true, third-in c.requires.0 c.loop-j.j c.loop-j-test.true, c.requires.0.row_inside.components_length, c.requires.0.row_inside.powered_length)
 
 pub bounds-finding_polarities-at : goal.bounds-finding_polarities-at
 bounds-finding_polarities-at c = omega (arith, c.loop-j.invariant.2.size, c.requires.3)
@@ -55,10 +55,10 @@ pub bounds-finding_units-at : goal.bounds-finding_units-at
 bounds-finding_units-at c = omega (arith, c.loop-j.invariant.3.size, c.requires.4)
 
 pub offset_bounds-ticks-second : goal.offset_bounds-ticks-second
-offset_bounds-ticks-second c = omega (arith, window-in c.requires.0 c.loop-j.j c.loop-j-test.true, first-in c.requires.0 c.loop-j.j c.loop-j-test.true, second-in c.requires.0 c.loop-j.j c.loop-j-test.true, third-in c.requires.0 c.loop-j.j c.loop-j-test.true, c.requires.0.row_inside.components-length, c.requires.0.row_inside.powered-length)
+offset_bounds-ticks-second c = omega (arith, window-in c.requires.0 c.loop-j.j c.loop-j-test.true, first-in c.requires.0 c.loop-j.j c.loop-j-test.true, second-in c.requires.0 c.loop-j.j c.loop-j-test.true, third-in c.requires.0 c.loop-j.j c.loop-j-test.true, c.requires.0.row_inside.components_length, c.requires.0.row_inside.powered_length)
 
 pub bounds-ticks-second : goal.bounds-ticks-second
-bounds-ticks-second c = omega (arith, window-in c.requires.0 c.loop-j.j c.loop-j-test.true, first-in c.requires.0 c.loop-j.j c.loop-j-test.true, second-in c.requires.0 c.loop-j.j c.loop-j-test.true, third-in c.requires.0 c.loop-j.j c.loop-j-test.true, c.requires.0.row_inside.components-length, c.requires.0.row_inside.powered-length)
+bounds-ticks-second c = omega (arith, window-in c.requires.0 c.loop-j.j c.loop-j-test.true, first-in c.requires.0 c.loop-j.j c.loop-j-test.true, second-in c.requires.0 c.loop-j.j c.loop-j-test.true, third-in c.requires.0 c.loop-j.j c.loop-j-test.true, c.requires.0.row_inside.components_length, c.requires.0.row_inside.powered_length)
 
 pub offset_bounds-finding_start_ticks-at : goal.offset_bounds-finding_start_ticks-at
 offset_bounds-finding_start_ticks-at c = omega (arith, c.loop-j.invariant.4.size, c.requires.5)
@@ -67,10 +67,10 @@ pub bounds-finding_start_ticks-at : goal.bounds-finding_start_ticks-at
 bounds-finding_start_ticks-at c = omega (arith, c.loop-j.invariant.4.size, c.requires.5)
 
 pub offset_bounds-ticks-third : goal.offset_bounds-ticks-third
-offset_bounds-ticks-third c = omega (arith, window-in c.requires.0 c.loop-j.j c.loop-j-test.true, first-in c.requires.0 c.loop-j.j c.loop-j-test.true, second-in c.requires.0 c.loop-j.j c.loop-j-test.true, third-in c.requires.0 c.loop-j.j c.loop-j-test.true, c.requires.0.row_inside.components-length, c.requires.0.row_inside.powered-length)
+offset_bounds-ticks-third c = omega (arith, window-in c.requires.0 c.loop-j.j c.loop-j-test.true, first-in c.requires.0 c.loop-j.j c.loop-j-test.true, second-in c.requires.0 c.loop-j.j c.loop-j-test.true, third-in c.requires.0 c.loop-j.j c.loop-j-test.true, c.requires.0.row_inside.components_length, c.requires.0.row_inside.powered_length)
 
 pub bounds-ticks-third : goal.bounds-ticks-third
-bounds-ticks-third c = omega (arith, window-in c.requires.0 c.loop-j.j c.loop-j-test.true, first-in c.requires.0 c.loop-j.j c.loop-j-test.true, second-in c.requires.0 c.loop-j.j c.loop-j-test.true, third-in c.requires.0 c.loop-j.j c.loop-j-test.true, c.requires.0.row_inside.components-length, c.requires.0.row_inside.powered-length)
+bounds-ticks-third c = omega (arith, window-in c.requires.0 c.loop-j.j c.loop-j-test.true, first-in c.requires.0 c.loop-j.j c.loop-j-test.true, second-in c.requires.0 c.loop-j.j c.loop-j-test.true, third-in c.requires.0 c.loop-j.j c.loop-j-test.true, c.requires.0.row_inside.components_length, c.requires.0.row_inside.powered_length)
 
 pub offset_bounds-finding_end_ticks-at : goal.offset_bounds-finding_end_ticks-at
 offset_bounds-finding_end_ticks-at c = omega (arith, c.loop-j.invariant.5.size, c.requires.6)
@@ -79,16 +79,16 @@ pub bounds-finding_end_ticks-at : goal.bounds-finding_end_ticks-at
 bounds-finding_end_ticks-at c = omega (arith, c.loop-j.invariant.5.size, c.requires.6)
 
 pub offset_bounds-ticks-second-in-loop-j : goal.offset_bounds-ticks-second-in-loop-j
-offset_bounds-ticks-second-in-loop-j c = omega (arith, window-in c.requires.0 c.loop-j.j c.loop-j-test.true, first-in c.requires.0 c.loop-j.j c.loop-j-test.true, second-in c.requires.0 c.loop-j.j c.loop-j-test.true, third-in c.requires.0 c.loop-j.j c.loop-j-test.true, c.requires.0.row_inside.components-length, c.requires.0.row_inside.powered-length)
+offset_bounds-ticks-second-in-loop-j c = omega (arith, window-in c.requires.0 c.loop-j.j c.loop-j-test.true, first-in c.requires.0 c.loop-j.j c.loop-j-test.true, second-in c.requires.0 c.loop-j.j c.loop-j-test.true, third-in c.requires.0 c.loop-j.j c.loop-j-test.true, c.requires.0.row_inside.components_length, c.requires.0.row_inside.powered_length)
 
 pub bounds-ticks-second-in-loop-j : goal.bounds-ticks-second-in-loop-j
-bounds-ticks-second-in-loop-j c = omega (arith, window-in c.requires.0 c.loop-j.j c.loop-j-test.true, first-in c.requires.0 c.loop-j.j c.loop-j-test.true, second-in c.requires.0 c.loop-j.j c.loop-j-test.true, third-in c.requires.0 c.loop-j.j c.loop-j-test.true, c.requires.0.row_inside.components-length, c.requires.0.row_inside.powered-length)
+bounds-ticks-second-in-loop-j c = omega (arith, window-in c.requires.0 c.loop-j.j c.loop-j-test.true, first-in c.requires.0 c.loop-j.j c.loop-j-test.true, second-in c.requires.0 c.loop-j.j c.loop-j-test.true, third-in c.requires.0 c.loop-j.j c.loop-j-test.true, c.requires.0.row_inside.components_length, c.requires.0.row_inside.powered_length)
 
 pub offset_bounds-ticks-third-in-loop-j : goal.offset_bounds-ticks-third-in-loop-j
-offset_bounds-ticks-third-in-loop-j c = omega (arith, window-in c.requires.0 c.loop-j.j c.loop-j-test.true, first-in c.requires.0 c.loop-j.j c.loop-j-test.true, second-in c.requires.0 c.loop-j.j c.loop-j-test.true, third-in c.requires.0 c.loop-j.j c.loop-j-test.true, c.requires.0.row_inside.components-length, c.requires.0.row_inside.powered-length)
+offset_bounds-ticks-third-in-loop-j c = omega (arith, window-in c.requires.0 c.loop-j.j c.loop-j-test.true, first-in c.requires.0 c.loop-j.j c.loop-j-test.true, second-in c.requires.0 c.loop-j.j c.loop-j-test.true, third-in c.requires.0 c.loop-j.j c.loop-j-test.true, c.requires.0.row_inside.components_length, c.requires.0.row_inside.powered_length)
 
 pub bounds-ticks-third-in-loop-j : goal.bounds-ticks-third-in-loop-j
-bounds-ticks-third-in-loop-j c = omega (arith, window-in c.requires.0 c.loop-j.j c.loop-j-test.true, first-in c.requires.0 c.loop-j.j c.loop-j-test.true, second-in c.requires.0 c.loop-j.j c.loop-j-test.true, third-in c.requires.0 c.loop-j.j c.loop-j-test.true, c.requires.0.row_inside.components-length, c.requires.0.row_inside.powered-length)
+bounds-ticks-third-in-loop-j c = omega (arith, window-in c.requires.0 c.loop-j.j c.loop-j-test.true, first-in c.requires.0 c.loop-j.j c.loop-j-test.true, second-in c.requires.0 c.loop-j.j c.loop-j-test.true, third-in c.requires.0 c.loop-j.j c.loop-j-test.true, c.requires.0.row_inside.components_length, c.requires.0.row_inside.powered_length)
 
 pub offset_bounds-finding_widths-at : goal.offset_bounds-finding_widths-at
 offset_bounds-finding_widths-at c = omega (arith, c.loop-j.invariant.6.size, c.requires.7)
@@ -119,4 +119,4 @@ pub shape_of-finding_widths : goal.shape_of-finding_widths
 shape_of-finding_widths c = c.loop-j.invariant.6.size
 
 pub returns : goal.returns
-returns c = record { components-written = made_all (λ k. (pulse_at (unit_of c.args.unit) (event_lists c.args.ticks.now c.args.components.now c.args.powered.now) c.args.row.now k).component) c.args.places.now 0 c.args.start _ _ c.loop-j.j (omega arith) c.loop-j.invariant.1; polarities-written = made_all (λ k. polarity_code (pulse_at (unit_of c.args.unit) (event_lists c.args.ticks.now c.args.components.now c.args.powered.now) c.args.row.now k).polarity) c.args.places.now 0 c.args.start _ _ c.loop-j.j (omega arith) c.loop-j.invariant.2; units-written = made_all (λ k. unit_code (pulse_at (unit_of c.args.unit) (event_lists c.args.ticks.now c.args.components.now c.args.powered.now) c.args.row.now k).unit) c.args.places.now 0 c.args.start _ _ c.loop-j.j (omega arith) c.loop-j.invariant.3; start-ticks-written = made_all (λ k. (pulse_at (unit_of c.args.unit) (event_lists c.args.ticks.now c.args.components.now c.args.powered.now) c.args.row.now k).start_tick) c.args.places.now 0 c.args.start _ _ c.loop-j.j (omega arith) c.loop-j.invariant.4; end-ticks-written = made_all (λ k. (pulse_at (unit_of c.args.unit) (event_lists c.args.ticks.now c.args.components.now c.args.powered.now) c.args.row.now k).end_tick) c.args.places.now 0 c.args.start _ _ c.loop-j.j (omega arith) c.loop-j.invariant.5; widths-written = made_all (λ k. (pulse_at (unit_of c.args.unit) (event_lists c.args.ticks.now c.args.components.now c.args.powered.now) c.args.row.now k).width) c.args.places.now 0 c.args.start _ _ c.loop-j.j (omega arith) c.loop-j.invariant.6 }
+returns c = record { components_written = made_all (λ k. (pulse_at (unit_of c.args.unit) (event_lists c.args.ticks.now c.args.components.now c.args.powered.now) c.args.row.now k).component) c.args.places.now 0 c.args.start _ _ c.loop-j.j (omega arith) c.loop-j.invariant.1; polarities_written = made_all (λ k. polarity_code (pulse_at (unit_of c.args.unit) (event_lists c.args.ticks.now c.args.components.now c.args.powered.now) c.args.row.now k).polarity) c.args.places.now 0 c.args.start _ _ c.loop-j.j (omega arith) c.loop-j.invariant.2; units_written = made_all (λ k. unit_code (pulse_at (unit_of c.args.unit) (event_lists c.args.ticks.now c.args.components.now c.args.powered.now) c.args.row.now k).unit) c.args.places.now 0 c.args.start _ _ c.loop-j.j (omega arith) c.loop-j.invariant.3; start_ticks_written = made_all (λ k. (pulse_at (unit_of c.args.unit) (event_lists c.args.ticks.now c.args.components.now c.args.powered.now) c.args.row.now k).start_tick) c.args.places.now 0 c.args.start _ _ c.loop-j.j (omega arith) c.loop-j.invariant.4; end_ticks_written = made_all (λ k. (pulse_at (unit_of c.args.unit) (event_lists c.args.ticks.now c.args.components.now c.args.powered.now) c.args.row.now k).end_tick) c.args.places.now 0 c.args.start _ _ c.loop-j.j (omega arith) c.loop-j.invariant.5; widths_written = made_all (λ k. (pulse_at (unit_of c.args.unit) (event_lists c.args.ticks.now c.args.components.now c.args.powered.now) c.args.row.now k).width) c.args.places.now 0 c.args.start _ _ c.loop-j.j (omega arith) c.loop-j.invariant.6 }

@@ -26,28 +26,28 @@ pub bounds-row-k-2 : goal.bounds-row-k-2
 bounds-row-k-2 c = c.requires.1
 
 pub offset_bounds-components-second : goal.offset_bounds-components-second
-offset_bounds-components-second c = omega (arith, c.requires.0.inside (c.args.k + 1) (omega (arith, c.requires.1)), c.requires.0.inside (c.args.k + 2) (omega (arith, c.requires.1)), c.requires.0.components-length, c.requires.0.powered-length)
+offset_bounds-components-second c = omega (arith, c.requires.0.inside (c.args.k + 1) (omega (arith, c.requires.1)), c.requires.0.inside (c.args.k + 2) (omega (arith, c.requires.1)), c.requires.0.components_length, c.requires.0.powered_length)
 
 pub bounds-components-second : goal.bounds-components-second
-bounds-components-second c = omega (arith, c.requires.0.inside (c.args.k + 1) (omega (arith, c.requires.1)), c.requires.0.inside (c.args.k + 2) (omega (arith, c.requires.1)), c.requires.0.components-length, c.requires.0.powered-length)
+bounds-components-second c = omega (arith, c.requires.0.inside (c.args.k + 1) (omega (arith, c.requires.1)), c.requires.0.inside (c.args.k + 2) (omega (arith, c.requires.1)), c.requires.0.components_length, c.requires.0.powered_length)
 
 pub design_intent-intent-requires : goal.design_intent-intent-requires
 design_intent-intent-requires c = (c.requires.2, c.requires.3)
 
 pub bounds-powered-second : goal.bounds-powered-second
-bounds-powered-second c = omega (arith, c.requires.0.inside (c.args.k + 1) (omega (arith, c.requires.1)), c.requires.0.inside (c.args.k + 2) (omega (arith, c.requires.1)), c.requires.0.components-length, c.requires.0.powered-length)
+bounds-powered-second c = omega (arith, c.requires.0.inside (c.args.k + 1) (omega (arith, c.requires.1)), c.requires.0.inside (c.args.k + 2) (omega (arith, c.requires.1)), c.requires.0.components_length, c.requires.0.powered_length)
 
 pub offset_bounds-ticks-second : goal.offset_bounds-ticks-second
-offset_bounds-ticks-second c = omega (arith, c.requires.0.inside (c.args.k + 1) (omega (arith, c.requires.1)), c.requires.0.inside (c.args.k + 2) (omega (arith, c.requires.1)), c.requires.0.components-length, c.requires.0.powered-length)
+offset_bounds-ticks-second c = omega (arith, c.requires.0.inside (c.args.k + 1) (omega (arith, c.requires.1)), c.requires.0.inside (c.args.k + 2) (omega (arith, c.requires.1)), c.requires.0.components_length, c.requires.0.powered_length)
 
 pub bounds-ticks-second : goal.bounds-ticks-second
-bounds-ticks-second c = omega (arith, c.requires.0.inside (c.args.k + 1) (omega (arith, c.requires.1)), c.requires.0.inside (c.args.k + 2) (omega (arith, c.requires.1)), c.requires.0.components-length, c.requires.0.powered-length)
+bounds-ticks-second c = omega (arith, c.requires.0.inside (c.args.k + 1) (omega (arith, c.requires.1)), c.requires.0.inside (c.args.k + 2) (omega (arith, c.requires.1)), c.requires.0.components_length, c.requires.0.powered_length)
 
 pub offset_bounds-ticks-third : goal.offset_bounds-ticks-third
-offset_bounds-ticks-third c = omega (arith, c.requires.0.inside (c.args.k + 1) (omega (arith, c.requires.1)), c.requires.0.inside (c.args.k + 2) (omega (arith, c.requires.1)), c.requires.0.components-length, c.requires.0.powered-length)
+offset_bounds-ticks-third c = omega (arith, c.requires.0.inside (c.args.k + 1) (omega (arith, c.requires.1)), c.requires.0.inside (c.args.k + 2) (omega (arith, c.requires.1)), c.requires.0.components_length, c.requires.0.powered_length)
 
 pub bounds-ticks-third : goal.bounds-ticks-third
-bounds-ticks-third c = omega (arith, c.requires.0.inside (c.args.k + 1) (omega (arith, c.requires.1)), c.requires.0.inside (c.args.k + 2) (omega (arith, c.requires.1)), c.requires.0.components-length, c.requires.0.powered-length)
+bounds-ticks-third c = omega (arith, c.requires.0.inside (c.args.k + 1) (omega (arith, c.requires.1)), c.requires.0.inside (c.args.k + 2) (omega (arith, c.requires.1)), c.requires.0.components_length, c.requires.0.powered_length)
 
 pub returns : goal.returns
 unfolding pulse_at pulse_of event_at

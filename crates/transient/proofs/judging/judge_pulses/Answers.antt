@@ -15,7 +15,7 @@ pub loop-j-init : goal.loop-j-init
 loop-j-init c = (omega arith, made_none _ _ _, made_none _ _ _, tallied-none _)
 
 pub judge-judgement-requires : goal.judge-judgement-requires
-judge-judgement-requires c = (c.requires.0.row_inside, c.requires.0.places-inside c.loop-j.j c.loop-j-test.true, c.requires.1, c.requires.2)
+judge-judgement-requires c = (c.requires.0.row_inside, c.requires.0.places_inside c.loop-j.j c.loop-j-test.true, c.requires.1, c.requires.2)
 
 pub overflow_add-finding_verdicts : goal.overflow_add-finding_verdicts
 overflow_add-finding_verdicts c = omega (arith, c.loop-j.invariant.1.size, c.requires.3, c.well_formed)
@@ -45,4 +45,4 @@ pub shape_of-finding_rationales : goal.shape_of-finding_rationales
 shape_of-finding_rationales c = c.loop-j.invariant.2.size
 
 pub returns : goal.returns
-returns c = record { verdicts-written = made_all (λ k. finding_verdict ((found (contracts_of (contract_lists c.args.contract_components.now c.args.contract_intents.now c.args.contract_powered.now c.args.contract_polarities.now c.args.contract_units.now c.args.contract_smallest.now c.args.contract_largest.now)) c.args.unit (event_lists c.args.ticks.now c.args.components.now c.args.powered.now) c.args.row.now) k)) c.args.places.now 0 c.args.start _ _ c.loop-j.j (omega arith) c.loop-j.invariant.1; rationales-written = made_all (λ k. finding_rationale ((found (contracts_of (contract_lists c.args.contract_components.now c.args.contract_intents.now c.args.contract_powered.now c.args.contract_polarities.now c.args.contract_units.now c.args.contract_smallest.now c.args.contract_largest.now)) c.args.unit (event_lists c.args.ticks.now c.args.components.now c.args.powered.now) c.args.row.now) k)) c.args.places.now 0 c.args.start _ _ c.loop-j.j (omega arith) c.loop-j.invariant.2; tallied = tallied-all (found (contracts_of (contract_lists c.args.contract_components.now c.args.contract_intents.now c.args.contract_powered.now c.args.contract_polarities.now c.args.contract_units.now c.args.contract_smallest.now c.args.contract_largest.now)) c.args.unit (event_lists c.args.ticks.now c.args.components.now c.args.powered.now) c.args.row.now) c.args.places.now _ c.loop-j.j (omega arith) c.loop-j.invariant.3 }
+returns c = record { verdicts_written = made_all (λ k. finding_verdict ((found (contracts_of (contract_lists c.args.contract_components.now c.args.contract_intents.now c.args.contract_powered.now c.args.contract_polarities.now c.args.contract_units.now c.args.contract_smallest.now c.args.contract_largest.now)) c.args.unit (event_lists c.args.ticks.now c.args.components.now c.args.powered.now) c.args.row.now) k)) c.args.places.now 0 c.args.start _ _ c.loop-j.j (omega arith) c.loop-j.invariant.1; rationales_written = made_all (λ k. finding_rationale ((found (contracts_of (contract_lists c.args.contract_components.now c.args.contract_intents.now c.args.contract_powered.now c.args.contract_polarities.now c.args.contract_units.now c.args.contract_smallest.now c.args.contract_largest.now)) c.args.unit (event_lists c.args.ticks.now c.args.components.now c.args.powered.now) c.args.row.now) k)) c.args.places.now 0 c.args.start _ _ c.loop-j.j (omega arith) c.loop-j.invariant.2; tallied = tallied-all (found (contracts_of (contract_lists c.args.contract_components.now c.args.contract_intents.now c.args.contract_powered.now c.args.contract_polarities.now c.args.contract_units.now c.args.contract_smallest.now c.args.contract_largest.now)) c.args.unit (event_lists c.args.ticks.now c.args.components.now c.args.powered.now) c.args.row.now) c.args.places.now _ c.loop-j.j (omega arith) c.loop-j.invariant.3 }

@@ -9,16 +9,16 @@ pub loop-i-init : goal.loop-i-init
 loop-i-init c = (rows_start _, omega arith)
 
 pub bounds-intents-i : goal.bounds-intents-i
-bounds-intents-i c = omega (arith, c.requires.intents-length)
+bounds-intents-i c = omega (arith, c.requires.intents_length)
 
 pub bounds-powered-i : goal.bounds-powered-i
-bounds-powered-i c = omega (arith, c.requires.powered-length)
+bounds-powered-i c = omega (arith, c.requires.powered_length)
 
 pub bounds-polarities-i : goal.bounds-polarities-i
-bounds-polarities-i c = omega (arith, c.requires.polarities-length)
+bounds-polarities-i c = omega (arith, c.requires.polarities_length)
 
 pub bounds-units-i : goal.bounds-units-i
-bounds-units-i c = omega (arith, c.requires.units-length)
+bounds-units-i c = omega (arith, c.requires.units_length)
 
 pub returns-then-out_of_range : goal.returns-then-out_of_range
 returns-then-out_of_range c = contract-out (contract_lists c.args.components.now c.args.intents.now c.args.powered.now c.args.polarities.now c.args.units.now c.args.smallest.now c.args.largest.now) c.loop-i.i c.loop-i.invariant.0 c.out_of_range.result c.out_of_range.ensures (omega arith) c.if-out_of_range.true

@@ -11,27 +11,27 @@ use Rattle.transient.proofs.trace.assess_from.Goals as goal
 
 pub find_pulses-count-requires : goal.find_pulses-count-requires
 unfolding finding_lengths event_count
-find_pulses-count-requires c = ((accepted-trace c.args.start c.args.unit (event_lists c.args.ticks.now c.args.components.now c.args.powered.now) (contract_lists c.args.contract_components.now c.args.contract_intents.now c.args.contract_powered.now c.args.contract_polarities.now c.args.contract_units.now c.args.contract_smallest.now c.args.contract_largest.now) (finding_lists c.args.finding_components.now c.args.finding_polarities.now c.args.finding_units.now c.args.finding_start_ticks.now c.args.finding_end_ticks.now c.args.finding_widths.now c.args.finding_steady.now c.args.finding_baselines.now c.args.finding_starts.now c.args.finding_ends.now c.args.finding_verdicts.now c.args.finding_rationales.now) (checked-by c.args.start c.args.unit (event_lists c.args.ticks.now c.args.components.now c.args.powered.now) (contract_lists c.args.contract_components.now c.args.contract_intents.now c.args.contract_powered.now c.args.contract_polarities.now c.args.contract_units.now c.args.contract_smallest.now c.args.contract_largest.now) (finding_lists c.args.finding_components.now c.args.finding_polarities.now c.args.finding_units.now c.args.finding_start_ticks.now c.args.finding_end_ticks.now c.args.finding_widths.now c.args.finding_steady.now c.args.finding_baselines.now c.args.finding_starts.now c.args.finding_ends.now c.args.finding_verdicts.now c.args.finding_rationales.now) c.shortest.result c.shortest.ensures c.check_trace-checked.ensures) c.in-Accepted.is).events-aligned, (accepted-trace c.args.start c.args.unit (event_lists c.args.ticks.now c.args.components.now c.args.powered.now) (contract_lists c.args.contract_components.now c.args.contract_intents.now c.args.contract_powered.now c.args.contract_polarities.now c.args.contract_units.now c.args.contract_smallest.now c.args.contract_largest.now) (finding_lists c.args.finding_components.now c.args.finding_polarities.now c.args.finding_units.now c.args.finding_start_ticks.now c.args.finding_end_ticks.now c.args.finding_widths.now c.args.finding_steady.now c.args.finding_baselines.now c.args.finding_starts.now c.args.finding_ends.now c.args.finding_verdicts.now c.args.finding_rationales.now) (checked-by c.args.start c.args.unit (event_lists c.args.ticks.now c.args.components.now c.args.powered.now) (contract_lists c.args.contract_components.now c.args.contract_intents.now c.args.contract_powered.now c.args.contract_polarities.now c.args.contract_units.now c.args.contract_smallest.now c.args.contract_largest.now) (finding_lists c.args.finding_components.now c.args.finding_polarities.now c.args.finding_units.now c.args.finding_start_ticks.now c.args.finding_end_ticks.now c.args.finding_widths.now c.args.finding_steady.now c.args.finding_baselines.now c.args.finding_starts.now c.args.finding_ends.now c.args.finding_verdicts.now c.args.finding_rationales.now) c.shortest.result c.shortest.ensures c.check_trace-checked.ensures) c.in-Accepted.is).events-few, (accepted-trace c.args.start c.args.unit (event_lists c.args.ticks.now c.args.components.now c.args.powered.now) (contract_lists c.args.contract_components.now c.args.contract_intents.now c.args.contract_powered.now c.args.contract_polarities.now c.args.contract_units.now c.args.contract_smallest.now c.args.contract_largest.now) (finding_lists c.args.finding_components.now c.args.finding_polarities.now c.args.finding_units.now c.args.finding_start_ticks.now c.args.finding_end_ticks.now c.args.finding_widths.now c.args.finding_steady.now c.args.finding_baselines.now c.args.finding_starts.now c.args.finding_ends.now c.args.finding_verdicts.now c.args.finding_rationales.now) (checked-by c.args.start c.args.unit (event_lists c.args.ticks.now c.args.components.now c.args.powered.now) (contract_lists c.args.contract_components.now c.args.contract_intents.now c.args.contract_powered.now c.args.contract_polarities.now c.args.contract_units.now c.args.contract_smallest.now c.args.contract_largest.now) (finding_lists c.args.finding_components.now c.args.finding_polarities.now c.args.finding_units.now c.args.finding_start_ticks.now c.args.finding_end_ticks.now c.args.finding_widths.now c.args.finding_steady.now c.args.finding_baselines.now c.args.finding_starts.now c.args.finding_ends.now c.args.finding_verdicts.now c.args.finding_rationales.now) c.shortest.result c.shortest.ensures c.check_trace-checked.ensures) c.in-Accepted.is).events-few, (accepted-trace c.args.start c.args.unit (event_lists c.args.ticks.now c.args.components.now c.args.powered.now) (contract_lists c.args.contract_components.now c.args.contract_intents.now c.args.contract_powered.now c.args.contract_polarities.now c.args.contract_units.now c.args.contract_smallest.now c.args.contract_largest.now) (finding_lists c.args.finding_components.now c.args.finding_polarities.now c.args.finding_units.now c.args.finding_start_ticks.now c.args.finding_end_ticks.now c.args.finding_widths.now c.args.finding_steady.now c.args.finding_baselines.now c.args.finding_starts.now c.args.finding_ends.now c.args.finding_verdicts.now c.args.finding_rationales.now) (checked-by c.args.start c.args.unit (event_lists c.args.ticks.now c.args.components.now c.args.powered.now) (contract_lists c.args.contract_components.now c.args.contract_intents.now c.args.contract_powered.now c.args.contract_polarities.now c.args.contract_units.now c.args.contract_smallest.now c.args.contract_largest.now) (finding_lists c.args.finding_components.now c.args.finding_polarities.now c.args.finding_units.now c.args.finding_start_ticks.now c.args.finding_end_ticks.now c.args.finding_widths.now c.args.finding_steady.now c.args.finding_baselines.now c.args.finding_starts.now c.args.finding_ends.now c.args.finding_verdicts.now c.args.finding_rationales.now) c.shortest.result c.shortest.ensures c.check_trace-checked.ensures) c.in-Accepted.is).events-few)
+find_pulses-count-requires c = ((accepted-trace c.args.start c.args.unit (event_lists c.args.ticks.now c.args.components.now c.args.powered.now) (contract_lists c.args.contract_components.now c.args.contract_intents.now c.args.contract_powered.now c.args.contract_polarities.now c.args.contract_units.now c.args.contract_smallest.now c.args.contract_largest.now) (finding_lists c.args.finding_components.now c.args.finding_polarities.now c.args.finding_units.now c.args.finding_start_ticks.now c.args.finding_end_ticks.now c.args.finding_widths.now c.args.finding_steady.now c.args.finding_baselines.now c.args.finding_starts.now c.args.finding_ends.now c.args.finding_verdicts.now c.args.finding_rationales.now) (checked-by c.args.start c.args.unit (event_lists c.args.ticks.now c.args.components.now c.args.powered.now) (contract_lists c.args.contract_components.now c.args.contract_intents.now c.args.contract_powered.now c.args.contract_polarities.now c.args.contract_units.now c.args.contract_smallest.now c.args.contract_largest.now) (finding_lists c.args.finding_components.now c.args.finding_polarities.now c.args.finding_units.now c.args.finding_start_ticks.now c.args.finding_end_ticks.now c.args.finding_widths.now c.args.finding_steady.now c.args.finding_baselines.now c.args.finding_starts.now c.args.finding_ends.now c.args.finding_verdicts.now c.args.finding_rationales.now) c.shortest.result c.shortest.ensures c.check_trace-checked.ensures) c.in-Accepted.is).events_aligned, (accepted-trace c.args.start c.args.unit (event_lists c.args.ticks.now c.args.components.now c.args.powered.now) (contract_lists c.args.contract_components.now c.args.contract_intents.now c.args.contract_powered.now c.args.contract_polarities.now c.args.contract_units.now c.args.contract_smallest.now c.args.contract_largest.now) (finding_lists c.args.finding_components.now c.args.finding_polarities.now c.args.finding_units.now c.args.finding_start_ticks.now c.args.finding_end_ticks.now c.args.finding_widths.now c.args.finding_steady.now c.args.finding_baselines.now c.args.finding_starts.now c.args.finding_ends.now c.args.finding_verdicts.now c.args.finding_rationales.now) (checked-by c.args.start c.args.unit (event_lists c.args.ticks.now c.args.components.now c.args.powered.now) (contract_lists c.args.contract_components.now c.args.contract_intents.now c.args.contract_powered.now c.args.contract_polarities.now c.args.contract_units.now c.args.contract_smallest.now c.args.contract_largest.now) (finding_lists c.args.finding_components.now c.args.finding_polarities.now c.args.finding_units.now c.args.finding_start_ticks.now c.args.finding_end_ticks.now c.args.finding_widths.now c.args.finding_steady.now c.args.finding_baselines.now c.args.finding_starts.now c.args.finding_ends.now c.args.finding_verdicts.now c.args.finding_rationales.now) c.shortest.result c.shortest.ensures c.check_trace-checked.ensures) c.in-Accepted.is).events_few, (accepted-trace c.args.start c.args.unit (event_lists c.args.ticks.now c.args.components.now c.args.powered.now) (contract_lists c.args.contract_components.now c.args.contract_intents.now c.args.contract_powered.now c.args.contract_polarities.now c.args.contract_units.now c.args.contract_smallest.now c.args.contract_largest.now) (finding_lists c.args.finding_components.now c.args.finding_polarities.now c.args.finding_units.now c.args.finding_start_ticks.now c.args.finding_end_ticks.now c.args.finding_widths.now c.args.finding_steady.now c.args.finding_baselines.now c.args.finding_starts.now c.args.finding_ends.now c.args.finding_verdicts.now c.args.finding_rationales.now) (checked-by c.args.start c.args.unit (event_lists c.args.ticks.now c.args.components.now c.args.powered.now) (contract_lists c.args.contract_components.now c.args.contract_intents.now c.args.contract_powered.now c.args.contract_polarities.now c.args.contract_units.now c.args.contract_smallest.now c.args.contract_largest.now) (finding_lists c.args.finding_components.now c.args.finding_polarities.now c.args.finding_units.now c.args.finding_start_ticks.now c.args.finding_end_ticks.now c.args.finding_widths.now c.args.finding_steady.now c.args.finding_baselines.now c.args.finding_starts.now c.args.finding_ends.now c.args.finding_verdicts.now c.args.finding_rationales.now) c.shortest.result c.shortest.ensures c.check_trace-checked.ensures) c.in-Accepted.is).events_few, (accepted-trace c.args.start c.args.unit (event_lists c.args.ticks.now c.args.components.now c.args.powered.now) (contract_lists c.args.contract_components.now c.args.contract_intents.now c.args.contract_powered.now c.args.contract_polarities.now c.args.contract_units.now c.args.contract_smallest.now c.args.contract_largest.now) (finding_lists c.args.finding_components.now c.args.finding_polarities.now c.args.finding_units.now c.args.finding_start_ticks.now c.args.finding_end_ticks.now c.args.finding_widths.now c.args.finding_steady.now c.args.finding_baselines.now c.args.finding_starts.now c.args.finding_ends.now c.args.finding_verdicts.now c.args.finding_rationales.now) (checked-by c.args.start c.args.unit (event_lists c.args.ticks.now c.args.components.now c.args.powered.now) (contract_lists c.args.contract_components.now c.args.contract_intents.now c.args.contract_powered.now c.args.contract_polarities.now c.args.contract_units.now c.args.contract_smallest.now c.args.contract_largest.now) (finding_lists c.args.finding_components.now c.args.finding_polarities.now c.args.finding_units.now c.args.finding_start_ticks.now c.args.finding_end_ticks.now c.args.finding_widths.now c.args.finding_steady.now c.args.finding_baselines.now c.args.finding_starts.now c.args.finding_ends.now c.args.finding_verdicts.now c.args.finding_rationales.now) c.shortest.result c.shortest.ensures c.check_trace-checked.ensures) c.in-Accepted.is).events_few)
 
 pub slice_bounds-row-end : goal.slice_bounds-row-end
 unfolding finding_lengths event_count
-slice_bounds-row-end c = omega (arith, (accepted-trace c.args.start c.args.unit (event_lists c.args.ticks.now c.args.components.now c.args.powered.now) (contract_lists c.args.contract_components.now c.args.contract_intents.now c.args.contract_powered.now c.args.contract_polarities.now c.args.contract_units.now c.args.contract_smallest.now c.args.contract_largest.now) (finding_lists c.args.finding_components.now c.args.finding_polarities.now c.args.finding_units.now c.args.finding_start_ticks.now c.args.finding_end_ticks.now c.args.finding_widths.now c.args.finding_steady.now c.args.finding_baselines.now c.args.finding_starts.now c.args.finding_ends.now c.args.finding_verdicts.now c.args.finding_rationales.now) (checked-by c.args.start c.args.unit (event_lists c.args.ticks.now c.args.components.now c.args.powered.now) (contract_lists c.args.contract_components.now c.args.contract_intents.now c.args.contract_powered.now c.args.contract_polarities.now c.args.contract_units.now c.args.contract_smallest.now c.args.contract_largest.now) (finding_lists c.args.finding_components.now c.args.finding_polarities.now c.args.finding_units.now c.args.finding_start_ticks.now c.args.finding_end_ticks.now c.args.finding_widths.now c.args.finding_steady.now c.args.finding_baselines.now c.args.finding_starts.now c.args.finding_ends.now c.args.finding_verdicts.now c.args.finding_rationales.now) c.shortest.result c.shortest.ensures c.check_trace-checked.ensures) c.in-Accepted.is).events-few, c.find_pulses-count.auto.row)
+slice_bounds-row-end c = omega (arith, (accepted-trace c.args.start c.args.unit (event_lists c.args.ticks.now c.args.components.now c.args.powered.now) (contract_lists c.args.contract_components.now c.args.contract_intents.now c.args.contract_powered.now c.args.contract_polarities.now c.args.contract_units.now c.args.contract_smallest.now c.args.contract_largest.now) (finding_lists c.args.finding_components.now c.args.finding_polarities.now c.args.finding_units.now c.args.finding_start_ticks.now c.args.finding_end_ticks.now c.args.finding_widths.now c.args.finding_steady.now c.args.finding_baselines.now c.args.finding_starts.now c.args.finding_ends.now c.args.finding_verdicts.now c.args.finding_rationales.now) (checked-by c.args.start c.args.unit (event_lists c.args.ticks.now c.args.components.now c.args.powered.now) (contract_lists c.args.contract_components.now c.args.contract_intents.now c.args.contract_powered.now c.args.contract_polarities.now c.args.contract_units.now c.args.contract_smallest.now c.args.contract_largest.now) (finding_lists c.args.finding_components.now c.args.finding_polarities.now c.args.finding_units.now c.args.finding_start_ticks.now c.args.finding_end_ticks.now c.args.finding_widths.now c.args.finding_steady.now c.args.finding_baselines.now c.args.finding_starts.now c.args.finding_ends.now c.args.finding_verdicts.now c.args.finding_rationales.now) c.shortest.result c.shortest.ensures c.check_trace-checked.ensures) c.in-Accepted.is).events_few, c.find_pulses-count.auto.row)
 
 pub slice_bounds-write_findings-end : goal.slice_bounds-write_findings-end
 unfolding finding_lengths event_count
-slice_bounds-write_findings-end c = sym (length-take-le (length c.args.ticks.now) _ (omega (arith, (accepted-trace c.args.start c.args.unit (event_lists c.args.ticks.now c.args.components.now c.args.powered.now) (contract_lists c.args.contract_components.now c.args.contract_intents.now c.args.contract_powered.now c.args.contract_polarities.now c.args.contract_units.now c.args.contract_smallest.now c.args.contract_largest.now) (finding_lists c.args.finding_components.now c.args.finding_polarities.now c.args.finding_units.now c.args.finding_start_ticks.now c.args.finding_end_ticks.now c.args.finding_widths.now c.args.finding_steady.now c.args.finding_baselines.now c.args.finding_starts.now c.args.finding_ends.now c.args.finding_verdicts.now c.args.finding_rationales.now) (checked-by c.args.start c.args.unit (event_lists c.args.ticks.now c.args.components.now c.args.powered.now) (contract_lists c.args.contract_components.now c.args.contract_intents.now c.args.contract_powered.now c.args.contract_polarities.now c.args.contract_units.now c.args.contract_smallest.now c.args.contract_largest.now) (finding_lists c.args.finding_components.now c.args.finding_polarities.now c.args.finding_units.now c.args.finding_start_ticks.now c.args.finding_end_ticks.now c.args.finding_widths.now c.args.finding_steady.now c.args.finding_baselines.now c.args.finding_starts.now c.args.finding_ends.now c.args.finding_verdicts.now c.args.finding_rationales.now) c.shortest.result c.shortest.ensures c.check_trace-checked.ensures) c.in-Accepted.is).events-few, c.find_pulses-count.auto.row)))
+slice_bounds-write_findings-end c = sym (length-take-le (length c.args.ticks.now) _ (omega (arith, (accepted-trace c.args.start c.args.unit (event_lists c.args.ticks.now c.args.components.now c.args.powered.now) (contract_lists c.args.contract_components.now c.args.contract_intents.now c.args.contract_powered.now c.args.contract_polarities.now c.args.contract_units.now c.args.contract_smallest.now c.args.contract_largest.now) (finding_lists c.args.finding_components.now c.args.finding_polarities.now c.args.finding_units.now c.args.finding_start_ticks.now c.args.finding_end_ticks.now c.args.finding_widths.now c.args.finding_steady.now c.args.finding_baselines.now c.args.finding_starts.now c.args.finding_ends.now c.args.finding_verdicts.now c.args.finding_rationales.now) (checked-by c.args.start c.args.unit (event_lists c.args.ticks.now c.args.components.now c.args.powered.now) (contract_lists c.args.contract_components.now c.args.contract_intents.now c.args.contract_powered.now c.args.contract_polarities.now c.args.contract_units.now c.args.contract_smallest.now c.args.contract_largest.now) (finding_lists c.args.finding_components.now c.args.finding_polarities.now c.args.finding_units.now c.args.finding_start_ticks.now c.args.finding_end_ticks.now c.args.finding_widths.now c.args.finding_steady.now c.args.finding_baselines.now c.args.finding_starts.now c.args.finding_ends.now c.args.finding_verdicts.now c.args.finding_rationales.now) c.shortest.result c.shortest.ensures c.check_trace-checked.ensures) c.in-Accepted.is).events_few, c.find_pulses-count.auto.row)))
 
 pub slice_bounds-places-end : goal.slice_bounds-places-end
 unfolding finding_lengths event_count
-slice_bounds-places-end c = omega (arith, (accepted-trace c.args.start c.args.unit (event_lists c.args.ticks.now c.args.components.now c.args.powered.now) (contract_lists c.args.contract_components.now c.args.contract_intents.now c.args.contract_powered.now c.args.contract_polarities.now c.args.contract_units.now c.args.contract_smallest.now c.args.contract_largest.now) (finding_lists c.args.finding_components.now c.args.finding_polarities.now c.args.finding_units.now c.args.finding_start_ticks.now c.args.finding_end_ticks.now c.args.finding_widths.now c.args.finding_steady.now c.args.finding_baselines.now c.args.finding_starts.now c.args.finding_ends.now c.args.finding_verdicts.now c.args.finding_rationales.now) (checked-by c.args.start c.args.unit (event_lists c.args.ticks.now c.args.components.now c.args.powered.now) (contract_lists c.args.contract_components.now c.args.contract_intents.now c.args.contract_powered.now c.args.contract_polarities.now c.args.contract_units.now c.args.contract_smallest.now c.args.contract_largest.now) (finding_lists c.args.finding_components.now c.args.finding_polarities.now c.args.finding_units.now c.args.finding_start_ticks.now c.args.finding_end_ticks.now c.args.finding_widths.now c.args.finding_steady.now c.args.finding_baselines.now c.args.finding_starts.now c.args.finding_ends.now c.args.finding_verdicts.now c.args.finding_rationales.now) c.shortest.result c.shortest.ensures c.check_trace-checked.ensures) c.in-Accepted.is).events-few, found-few c.args.ticks.now c.args.components.now c.args.powered.now (accepted-trace c.args.start c.args.unit (event_lists c.args.ticks.now c.args.components.now c.args.powered.now) (contract_lists c.args.contract_components.now c.args.contract_intents.now c.args.contract_powered.now c.args.contract_polarities.now c.args.contract_units.now c.args.contract_smallest.now c.args.contract_largest.now) (finding_lists c.args.finding_components.now c.args.finding_polarities.now c.args.finding_units.now c.args.finding_start_ticks.now c.args.finding_end_ticks.now c.args.finding_widths.now c.args.finding_steady.now c.args.finding_baselines.now c.args.finding_starts.now c.args.finding_ends.now c.args.finding_verdicts.now c.args.finding_rationales.now) (checked-by c.args.start c.args.unit (event_lists c.args.ticks.now c.args.components.now c.args.powered.now) (contract_lists c.args.contract_components.now c.args.contract_intents.now c.args.contract_powered.now c.args.contract_polarities.now c.args.contract_units.now c.args.contract_smallest.now c.args.contract_largest.now) (finding_lists c.args.finding_components.now c.args.finding_polarities.now c.args.finding_units.now c.args.finding_start_ticks.now c.args.finding_end_ticks.now c.args.finding_widths.now c.args.finding_steady.now c.args.finding_baselines.now c.args.finding_starts.now c.args.finding_ends.now c.args.finding_verdicts.now c.args.finding_rationales.now) c.shortest.result c.shortest.ensures c.check_trace-checked.ensures) c.in-Accepted.is).events-aligned c.find_pulses-count.ensures, c.find_pulses-count.auto.places)
+slice_bounds-places-end c = omega (arith, (accepted-trace c.args.start c.args.unit (event_lists c.args.ticks.now c.args.components.now c.args.powered.now) (contract_lists c.args.contract_components.now c.args.contract_intents.now c.args.contract_powered.now c.args.contract_polarities.now c.args.contract_units.now c.args.contract_smallest.now c.args.contract_largest.now) (finding_lists c.args.finding_components.now c.args.finding_polarities.now c.args.finding_units.now c.args.finding_start_ticks.now c.args.finding_end_ticks.now c.args.finding_widths.now c.args.finding_steady.now c.args.finding_baselines.now c.args.finding_starts.now c.args.finding_ends.now c.args.finding_verdicts.now c.args.finding_rationales.now) (checked-by c.args.start c.args.unit (event_lists c.args.ticks.now c.args.components.now c.args.powered.now) (contract_lists c.args.contract_components.now c.args.contract_intents.now c.args.contract_powered.now c.args.contract_polarities.now c.args.contract_units.now c.args.contract_smallest.now c.args.contract_largest.now) (finding_lists c.args.finding_components.now c.args.finding_polarities.now c.args.finding_units.now c.args.finding_start_ticks.now c.args.finding_end_ticks.now c.args.finding_widths.now c.args.finding_steady.now c.args.finding_baselines.now c.args.finding_starts.now c.args.finding_ends.now c.args.finding_verdicts.now c.args.finding_rationales.now) c.shortest.result c.shortest.ensures c.check_trace-checked.ensures) c.in-Accepted.is).events_few, found-few c.args.ticks.now c.args.components.now c.args.powered.now (accepted-trace c.args.start c.args.unit (event_lists c.args.ticks.now c.args.components.now c.args.powered.now) (contract_lists c.args.contract_components.now c.args.contract_intents.now c.args.contract_powered.now c.args.contract_polarities.now c.args.contract_units.now c.args.contract_smallest.now c.args.contract_largest.now) (finding_lists c.args.finding_components.now c.args.finding_polarities.now c.args.finding_units.now c.args.finding_start_ticks.now c.args.finding_end_ticks.now c.args.finding_widths.now c.args.finding_steady.now c.args.finding_baselines.now c.args.finding_starts.now c.args.finding_ends.now c.args.finding_verdicts.now c.args.finding_rationales.now) (checked-by c.args.start c.args.unit (event_lists c.args.ticks.now c.args.components.now c.args.powered.now) (contract_lists c.args.contract_components.now c.args.contract_intents.now c.args.contract_powered.now c.args.contract_polarities.now c.args.contract_units.now c.args.contract_smallest.now c.args.contract_largest.now) (finding_lists c.args.finding_components.now c.args.finding_polarities.now c.args.finding_units.now c.args.finding_start_ticks.now c.args.finding_end_ticks.now c.args.finding_widths.now c.args.finding_steady.now c.args.finding_baselines.now c.args.finding_starts.now c.args.finding_ends.now c.args.finding_verdicts.now c.args.finding_rationales.now) c.shortest.result c.shortest.ensures c.check_trace-checked.ensures) c.in-Accepted.is).events_aligned c.find_pulses-count.ensures, c.find_pulses-count.auto.places)
 
 pub slice_bounds-write_findings-end-in-Accepted : goal.slice_bounds-write_findings-end-in-Accepted
 unfolding finding_lengths event_count
-slice_bounds-write_findings-end-in-Accepted c = sym (length-take-le c.find_pulses-count.result _ (omega (arith, (accepted-trace c.args.start c.args.unit (event_lists c.args.ticks.now c.args.components.now c.args.powered.now) (contract_lists c.args.contract_components.now c.args.contract_intents.now c.args.contract_powered.now c.args.contract_polarities.now c.args.contract_units.now c.args.contract_smallest.now c.args.contract_largest.now) (finding_lists c.args.finding_components.now c.args.finding_polarities.now c.args.finding_units.now c.args.finding_start_ticks.now c.args.finding_end_ticks.now c.args.finding_widths.now c.args.finding_steady.now c.args.finding_baselines.now c.args.finding_starts.now c.args.finding_ends.now c.args.finding_verdicts.now c.args.finding_rationales.now) (checked-by c.args.start c.args.unit (event_lists c.args.ticks.now c.args.components.now c.args.powered.now) (contract_lists c.args.contract_components.now c.args.contract_intents.now c.args.contract_powered.now c.args.contract_polarities.now c.args.contract_units.now c.args.contract_smallest.now c.args.contract_largest.now) (finding_lists c.args.finding_components.now c.args.finding_polarities.now c.args.finding_units.now c.args.finding_start_ticks.now c.args.finding_end_ticks.now c.args.finding_widths.now c.args.finding_steady.now c.args.finding_baselines.now c.args.finding_starts.now c.args.finding_ends.now c.args.finding_verdicts.now c.args.finding_rationales.now) c.shortest.result c.shortest.ensures c.check_trace-checked.ensures) c.in-Accepted.is).events-few, found-few c.args.ticks.now c.args.components.now c.args.powered.now (accepted-trace c.args.start c.args.unit (event_lists c.args.ticks.now c.args.components.now c.args.powered.now) (contract_lists c.args.contract_components.now c.args.contract_intents.now c.args.contract_powered.now c.args.contract_polarities.now c.args.contract_units.now c.args.contract_smallest.now c.args.contract_largest.now) (finding_lists c.args.finding_components.now c.args.finding_polarities.now c.args.finding_units.now c.args.finding_start_ticks.now c.args.finding_end_ticks.now c.args.finding_widths.now c.args.finding_steady.now c.args.finding_baselines.now c.args.finding_starts.now c.args.finding_ends.now c.args.finding_verdicts.now c.args.finding_rationales.now) (checked-by c.args.start c.args.unit (event_lists c.args.ticks.now c.args.components.now c.args.powered.now) (contract_lists c.args.contract_components.now c.args.contract_intents.now c.args.contract_powered.now c.args.contract_polarities.now c.args.contract_units.now c.args.contract_smallest.now c.args.contract_largest.now) (finding_lists c.args.finding_components.now c.args.finding_polarities.now c.args.finding_units.now c.args.finding_start_ticks.now c.args.finding_end_ticks.now c.args.finding_widths.now c.args.finding_steady.now c.args.finding_baselines.now c.args.finding_starts.now c.args.finding_ends.now c.args.finding_verdicts.now c.args.finding_rationales.now) c.shortest.result c.shortest.ensures c.check_trace-checked.ensures) c.in-Accepted.is).events-aligned c.find_pulses-count.ensures, c.find_pulses-count.auto.places)))
+slice_bounds-write_findings-end-in-Accepted c = sym (length-take-le c.find_pulses-count.result _ (omega (arith, (accepted-trace c.args.start c.args.unit (event_lists c.args.ticks.now c.args.components.now c.args.powered.now) (contract_lists c.args.contract_components.now c.args.contract_intents.now c.args.contract_powered.now c.args.contract_polarities.now c.args.contract_units.now c.args.contract_smallest.now c.args.contract_largest.now) (finding_lists c.args.finding_components.now c.args.finding_polarities.now c.args.finding_units.now c.args.finding_start_ticks.now c.args.finding_end_ticks.now c.args.finding_widths.now c.args.finding_steady.now c.args.finding_baselines.now c.args.finding_starts.now c.args.finding_ends.now c.args.finding_verdicts.now c.args.finding_rationales.now) (checked-by c.args.start c.args.unit (event_lists c.args.ticks.now c.args.components.now c.args.powered.now) (contract_lists c.args.contract_components.now c.args.contract_intents.now c.args.contract_powered.now c.args.contract_polarities.now c.args.contract_units.now c.args.contract_smallest.now c.args.contract_largest.now) (finding_lists c.args.finding_components.now c.args.finding_polarities.now c.args.finding_units.now c.args.finding_start_ticks.now c.args.finding_end_ticks.now c.args.finding_widths.now c.args.finding_steady.now c.args.finding_baselines.now c.args.finding_starts.now c.args.finding_ends.now c.args.finding_verdicts.now c.args.finding_rationales.now) c.shortest.result c.shortest.ensures c.check_trace-checked.ensures) c.in-Accepted.is).events_few, found-few c.args.ticks.now c.args.components.now c.args.powered.now (accepted-trace c.args.start c.args.unit (event_lists c.args.ticks.now c.args.components.now c.args.powered.now) (contract_lists c.args.contract_components.now c.args.contract_intents.now c.args.contract_powered.now c.args.contract_polarities.now c.args.contract_units.now c.args.contract_smallest.now c.args.contract_largest.now) (finding_lists c.args.finding_components.now c.args.finding_polarities.now c.args.finding_units.now c.args.finding_start_ticks.now c.args.finding_end_ticks.now c.args.finding_widths.now c.args.finding_steady.now c.args.finding_baselines.now c.args.finding_starts.now c.args.finding_ends.now c.args.finding_verdicts.now c.args.finding_rationales.now) (checked-by c.args.start c.args.unit (event_lists c.args.ticks.now c.args.components.now c.args.powered.now) (contract_lists c.args.contract_components.now c.args.contract_intents.now c.args.contract_powered.now c.args.contract_polarities.now c.args.contract_units.now c.args.contract_smallest.now c.args.contract_largest.now) (finding_lists c.args.finding_components.now c.args.finding_polarities.now c.args.finding_units.now c.args.finding_start_ticks.now c.args.finding_end_ticks.now c.args.finding_widths.now c.args.finding_steady.now c.args.finding_baselines.now c.args.finding_starts.now c.args.finding_ends.now c.args.finding_verdicts.now c.args.finding_rationales.now) c.shortest.result c.shortest.ensures c.check_trace-checked.ensures) c.in-Accepted.is).events_aligned c.find_pulses-count.ensures, c.find_pulses-count.auto.places)))
 
 pub write_findings-tallies-requires : goal.write_findings-tallies-requires
 unfolding finding_lengths
-write_findings-tallies-requires c = (found-windows c.args.ticks.now c.args.components.now c.args.powered.now (accepted-trace c.args.start c.args.unit (event_lists c.args.ticks.now c.args.components.now c.args.powered.now) (contract_lists c.args.contract_components.now c.args.contract_intents.now c.args.contract_powered.now c.args.contract_polarities.now c.args.contract_units.now c.args.contract_smallest.now c.args.contract_largest.now) (finding_lists c.args.finding_components.now c.args.finding_polarities.now c.args.finding_units.now c.args.finding_start_ticks.now c.args.finding_end_ticks.now c.args.finding_widths.now c.args.finding_steady.now c.args.finding_baselines.now c.args.finding_starts.now c.args.finding_ends.now c.args.finding_verdicts.now c.args.finding_rationales.now) (checked-by c.args.start c.args.unit (event_lists c.args.ticks.now c.args.components.now c.args.powered.now) (contract_lists c.args.contract_components.now c.args.contract_intents.now c.args.contract_powered.now c.args.contract_polarities.now c.args.contract_units.now c.args.contract_smallest.now c.args.contract_largest.now) (finding_lists c.args.finding_components.now c.args.finding_polarities.now c.args.finding_units.now c.args.finding_start_ticks.now c.args.finding_end_ticks.now c.args.finding_widths.now c.args.finding_steady.now c.args.finding_baselines.now c.args.finding_starts.now c.args.finding_ends.now c.args.finding_verdicts.now c.args.finding_rationales.now) c.shortest.result c.shortest.ensures c.check_trace-checked.ensures) c.in-Accepted.is).events-aligned c.find_pulses-count.ensures, (accepted-trace c.args.start c.args.unit (event_lists c.args.ticks.now c.args.components.now c.args.powered.now) (contract_lists c.args.contract_components.now c.args.contract_intents.now c.args.contract_powered.now c.args.contract_polarities.now c.args.contract_units.now c.args.contract_smallest.now c.args.contract_largest.now) (finding_lists c.args.finding_components.now c.args.finding_polarities.now c.args.finding_units.now c.args.finding_start_ticks.now c.args.finding_end_ticks.now c.args.finding_widths.now c.args.finding_steady.now c.args.finding_baselines.now c.args.finding_starts.now c.args.finding_ends.now c.args.finding_verdicts.now c.args.finding_rationales.now) (checked-by c.args.start c.args.unit (event_lists c.args.ticks.now c.args.components.now c.args.powered.now) (contract_lists c.args.contract_components.now c.args.contract_intents.now c.args.contract_powered.now c.args.contract_polarities.now c.args.contract_units.now c.args.contract_smallest.now c.args.contract_largest.now) (finding_lists c.args.finding_components.now c.args.finding_polarities.now c.args.finding_units.now c.args.finding_start_ticks.now c.args.finding_end_ticks.now c.args.finding_widths.now c.args.finding_steady.now c.args.finding_baselines.now c.args.finding_starts.now c.args.finding_ends.now c.args.finding_verdicts.now c.args.finding_rationales.now) c.shortest.result c.shortest.ensures c.check_trace-checked.ensures) c.in-Accepted.is).unit-fits, (accepted-trace c.args.start c.args.unit (event_lists c.args.ticks.now c.args.components.now c.args.powered.now) (contract_lists c.args.contract_components.now c.args.contract_intents.now c.args.contract_powered.now c.args.contract_polarities.now c.args.contract_units.now c.args.contract_smallest.now c.args.contract_largest.now) (finding_lists c.args.finding_components.now c.args.finding_polarities.now c.args.finding_units.now c.args.finding_start_ticks.now c.args.finding_end_ticks.now c.args.finding_widths.now c.args.finding_steady.now c.args.finding_baselines.now c.args.finding_starts.now c.args.finding_ends.now c.args.finding_verdicts.now c.args.finding_rationales.now) (checked-by c.args.start c.args.unit (event_lists c.args.ticks.now c.args.components.now c.args.powered.now) (contract_lists c.args.contract_components.now c.args.contract_intents.now c.args.contract_powered.now c.args.contract_polarities.now c.args.contract_units.now c.args.contract_smallest.now c.args.contract_largest.now) (finding_lists c.args.finding_components.now c.args.finding_polarities.now c.args.finding_units.now c.args.finding_start_ticks.now c.args.finding_end_ticks.now c.args.finding_widths.now c.args.finding_steady.now c.args.finding_baselines.now c.args.finding_starts.now c.args.finding_ends.now c.args.finding_verdicts.now c.args.finding_rationales.now) c.shortest.result c.shortest.ensures c.check_trace-checked.ensures) c.in-Accepted.is).contracts-aligned, (accepted-trace c.args.start c.args.unit (event_lists c.args.ticks.now c.args.components.now c.args.powered.now) (contract_lists c.args.contract_components.now c.args.contract_intents.now c.args.contract_powered.now c.args.contract_polarities.now c.args.contract_units.now c.args.contract_smallest.now c.args.contract_largest.now) (finding_lists c.args.finding_components.now c.args.finding_polarities.now c.args.finding_units.now c.args.finding_start_ticks.now c.args.finding_end_ticks.now c.args.finding_widths.now c.args.finding_steady.now c.args.finding_baselines.now c.args.finding_starts.now c.args.finding_ends.now c.args.finding_verdicts.now c.args.finding_rationales.now) (checked-by c.args.start c.args.unit (event_lists c.args.ticks.now c.args.components.now c.args.powered.now) (contract_lists c.args.contract_components.now c.args.contract_intents.now c.args.contract_powered.now c.args.contract_polarities.now c.args.contract_units.now c.args.contract_smallest.now c.args.contract_largest.now) (finding_lists c.args.finding_components.now c.args.finding_polarities.now c.args.finding_units.now c.args.finding_start_ticks.now c.args.finding_end_ticks.now c.args.finding_widths.now c.args.finding_steady.now c.args.finding_baselines.now c.args.finding_starts.now c.args.finding_ends.now c.args.finding_verdicts.now c.args.finding_rationales.now) c.shortest.result c.shortest.ensures c.check_trace-checked.ensures) c.in-Accepted.is).contracts-rise, accepted-room c.args.start c.args.unit (event_lists c.args.ticks.now c.args.components.now c.args.powered.now) (contract_lists c.args.contract_components.now c.args.contract_intents.now c.args.contract_powered.now c.args.contract_polarities.now c.args.contract_units.now c.args.contract_smallest.now c.args.contract_largest.now) (finding_lists c.args.finding_components.now c.args.finding_polarities.now c.args.finding_units.now c.args.finding_start_ticks.now c.args.finding_end_ticks.now c.args.finding_widths.now c.args.finding_steady.now c.args.finding_baselines.now c.args.finding_starts.now c.args.finding_ends.now c.args.finding_verdicts.now c.args.finding_rationales.now) (checked-by c.args.start c.args.unit (event_lists c.args.ticks.now c.args.components.now c.args.powered.now) (contract_lists c.args.contract_components.now c.args.contract_intents.now c.args.contract_powered.now c.args.contract_polarities.now c.args.contract_units.now c.args.contract_smallest.now c.args.contract_largest.now) (finding_lists c.args.finding_components.now c.args.finding_polarities.now c.args.finding_units.now c.args.finding_start_ticks.now c.args.finding_end_ticks.now c.args.finding_widths.now c.args.finding_steady.now c.args.finding_baselines.now c.args.finding_starts.now c.args.finding_ends.now c.args.finding_verdicts.now c.args.finding_rationales.now) c.shortest.result c.shortest.ensures c.check_trace-checked.ensures) c.in-Accepted.is _ (omega (arith, found-count c.args.ticks.now c.args.components.now c.args.powered.now (accepted-trace c.args.start c.args.unit (event_lists c.args.ticks.now c.args.components.now c.args.powered.now) (contract_lists c.args.contract_components.now c.args.contract_intents.now c.args.contract_powered.now c.args.contract_polarities.now c.args.contract_units.now c.args.contract_smallest.now c.args.contract_largest.now) (finding_lists c.args.finding_components.now c.args.finding_polarities.now c.args.finding_units.now c.args.finding_start_ticks.now c.args.finding_end_ticks.now c.args.finding_widths.now c.args.finding_steady.now c.args.finding_baselines.now c.args.finding_starts.now c.args.finding_ends.now c.args.finding_verdicts.now c.args.finding_rationales.now) (checked-by c.args.start c.args.unit (event_lists c.args.ticks.now c.args.components.now c.args.powered.now) (contract_lists c.args.contract_components.now c.args.contract_intents.now c.args.contract_powered.now c.args.contract_polarities.now c.args.contract_units.now c.args.contract_smallest.now c.args.contract_largest.now) (finding_lists c.args.finding_components.now c.args.finding_polarities.now c.args.finding_units.now c.args.finding_start_ticks.now c.args.finding_end_ticks.now c.args.finding_widths.now c.args.finding_steady.now c.args.finding_baselines.now c.args.finding_starts.now c.args.finding_ends.now c.args.finding_verdicts.now c.args.finding_rationales.now) c.shortest.result c.shortest.ensures c.check_trace-checked.ensures) c.in-Accepted.is).events-aligned c.find_pulses-count.ensures, found-few c.args.ticks.now c.args.components.now c.args.powered.now (accepted-trace c.args.start c.args.unit (event_lists c.args.ticks.now c.args.components.now c.args.powered.now) (contract_lists c.args.contract_components.now c.args.contract_intents.now c.args.contract_powered.now c.args.contract_polarities.now c.args.contract_units.now c.args.contract_smallest.now c.args.contract_largest.now) (finding_lists c.args.finding_components.now c.args.finding_polarities.now c.args.finding_units.now c.args.finding_start_ticks.now c.args.finding_end_ticks.now c.args.finding_widths.now c.args.finding_steady.now c.args.finding_baselines.now c.args.finding_starts.now c.args.finding_ends.now c.args.finding_verdicts.now c.args.finding_rationales.now) (checked-by c.args.start c.args.unit (event_lists c.args.ticks.now c.args.components.now c.args.powered.now) (contract_lists c.args.contract_components.now c.args.contract_intents.now c.args.contract_powered.now c.args.contract_polarities.now c.args.contract_units.now c.args.contract_smallest.now c.args.contract_largest.now) (finding_lists c.args.finding_components.now c.args.finding_polarities.now c.args.finding_units.now c.args.finding_start_ticks.now c.args.finding_end_ticks.now c.args.finding_widths.now c.args.finding_steady.now c.args.finding_baselines.now c.args.finding_starts.now c.args.finding_ends.now c.args.finding_verdicts.now c.args.finding_rationales.now) c.shortest.result c.shortest.ensures c.check_trace-checked.ensures) c.in-Accepted.is).events-aligned c.find_pulses-count.ensures)))
+write_findings-tallies-requires c = (found-windows c.args.ticks.now c.args.components.now c.args.powered.now (accepted-trace c.args.start c.args.unit (event_lists c.args.ticks.now c.args.components.now c.args.powered.now) (contract_lists c.args.contract_components.now c.args.contract_intents.now c.args.contract_powered.now c.args.contract_polarities.now c.args.contract_units.now c.args.contract_smallest.now c.args.contract_largest.now) (finding_lists c.args.finding_components.now c.args.finding_polarities.now c.args.finding_units.now c.args.finding_start_ticks.now c.args.finding_end_ticks.now c.args.finding_widths.now c.args.finding_steady.now c.args.finding_baselines.now c.args.finding_starts.now c.args.finding_ends.now c.args.finding_verdicts.now c.args.finding_rationales.now) (checked-by c.args.start c.args.unit (event_lists c.args.ticks.now c.args.components.now c.args.powered.now) (contract_lists c.args.contract_components.now c.args.contract_intents.now c.args.contract_powered.now c.args.contract_polarities.now c.args.contract_units.now c.args.contract_smallest.now c.args.contract_largest.now) (finding_lists c.args.finding_components.now c.args.finding_polarities.now c.args.finding_units.now c.args.finding_start_ticks.now c.args.finding_end_ticks.now c.args.finding_widths.now c.args.finding_steady.now c.args.finding_baselines.now c.args.finding_starts.now c.args.finding_ends.now c.args.finding_verdicts.now c.args.finding_rationales.now) c.shortest.result c.shortest.ensures c.check_trace-checked.ensures) c.in-Accepted.is).events_aligned c.find_pulses-count.ensures, (accepted-trace c.args.start c.args.unit (event_lists c.args.ticks.now c.args.components.now c.args.powered.now) (contract_lists c.args.contract_components.now c.args.contract_intents.now c.args.contract_powered.now c.args.contract_polarities.now c.args.contract_units.now c.args.contract_smallest.now c.args.contract_largest.now) (finding_lists c.args.finding_components.now c.args.finding_polarities.now c.args.finding_units.now c.args.finding_start_ticks.now c.args.finding_end_ticks.now c.args.finding_widths.now c.args.finding_steady.now c.args.finding_baselines.now c.args.finding_starts.now c.args.finding_ends.now c.args.finding_verdicts.now c.args.finding_rationales.now) (checked-by c.args.start c.args.unit (event_lists c.args.ticks.now c.args.components.now c.args.powered.now) (contract_lists c.args.contract_components.now c.args.contract_intents.now c.args.contract_powered.now c.args.contract_polarities.now c.args.contract_units.now c.args.contract_smallest.now c.args.contract_largest.now) (finding_lists c.args.finding_components.now c.args.finding_polarities.now c.args.finding_units.now c.args.finding_start_ticks.now c.args.finding_end_ticks.now c.args.finding_widths.now c.args.finding_steady.now c.args.finding_baselines.now c.args.finding_starts.now c.args.finding_ends.now c.args.finding_verdicts.now c.args.finding_rationales.now) c.shortest.result c.shortest.ensures c.check_trace-checked.ensures) c.in-Accepted.is).unit_fits, (accepted-trace c.args.start c.args.unit (event_lists c.args.ticks.now c.args.components.now c.args.powered.now) (contract_lists c.args.contract_components.now c.args.contract_intents.now c.args.contract_powered.now c.args.contract_polarities.now c.args.contract_units.now c.args.contract_smallest.now c.args.contract_largest.now) (finding_lists c.args.finding_components.now c.args.finding_polarities.now c.args.finding_units.now c.args.finding_start_ticks.now c.args.finding_end_ticks.now c.args.finding_widths.now c.args.finding_steady.now c.args.finding_baselines.now c.args.finding_starts.now c.args.finding_ends.now c.args.finding_verdicts.now c.args.finding_rationales.now) (checked-by c.args.start c.args.unit (event_lists c.args.ticks.now c.args.components.now c.args.powered.now) (contract_lists c.args.contract_components.now c.args.contract_intents.now c.args.contract_powered.now c.args.contract_polarities.now c.args.contract_units.now c.args.contract_smallest.now c.args.contract_largest.now) (finding_lists c.args.finding_components.now c.args.finding_polarities.now c.args.finding_units.now c.args.finding_start_ticks.now c.args.finding_end_ticks.now c.args.finding_widths.now c.args.finding_steady.now c.args.finding_baselines.now c.args.finding_starts.now c.args.finding_ends.now c.args.finding_verdicts.now c.args.finding_rationales.now) c.shortest.result c.shortest.ensures c.check_trace-checked.ensures) c.in-Accepted.is).contracts_aligned, (accepted-trace c.args.start c.args.unit (event_lists c.args.ticks.now c.args.components.now c.args.powered.now) (contract_lists c.args.contract_components.now c.args.contract_intents.now c.args.contract_powered.now c.args.contract_polarities.now c.args.contract_units.now c.args.contract_smallest.now c.args.contract_largest.now) (finding_lists c.args.finding_components.now c.args.finding_polarities.now c.args.finding_units.now c.args.finding_start_ticks.now c.args.finding_end_ticks.now c.args.finding_widths.now c.args.finding_steady.now c.args.finding_baselines.now c.args.finding_starts.now c.args.finding_ends.now c.args.finding_verdicts.now c.args.finding_rationales.now) (checked-by c.args.start c.args.unit (event_lists c.args.ticks.now c.args.components.now c.args.powered.now) (contract_lists c.args.contract_components.now c.args.contract_intents.now c.args.contract_powered.now c.args.contract_polarities.now c.args.contract_units.now c.args.contract_smallest.now c.args.contract_largest.now) (finding_lists c.args.finding_components.now c.args.finding_polarities.now c.args.finding_units.now c.args.finding_start_ticks.now c.args.finding_end_ticks.now c.args.finding_widths.now c.args.finding_steady.now c.args.finding_baselines.now c.args.finding_starts.now c.args.finding_ends.now c.args.finding_verdicts.now c.args.finding_rationales.now) c.shortest.result c.shortest.ensures c.check_trace-checked.ensures) c.in-Accepted.is).contracts_rise, accepted-room c.args.start c.args.unit (event_lists c.args.ticks.now c.args.components.now c.args.powered.now) (contract_lists c.args.contract_components.now c.args.contract_intents.now c.args.contract_powered.now c.args.contract_polarities.now c.args.contract_units.now c.args.contract_smallest.now c.args.contract_largest.now) (finding_lists c.args.finding_components.now c.args.finding_polarities.now c.args.finding_units.now c.args.finding_start_ticks.now c.args.finding_end_ticks.now c.args.finding_widths.now c.args.finding_steady.now c.args.finding_baselines.now c.args.finding_starts.now c.args.finding_ends.now c.args.finding_verdicts.now c.args.finding_rationales.now) (checked-by c.args.start c.args.unit (event_lists c.args.ticks.now c.args.components.now c.args.powered.now) (contract_lists c.args.contract_components.now c.args.contract_intents.now c.args.contract_powered.now c.args.contract_polarities.now c.args.contract_units.now c.args.contract_smallest.now c.args.contract_largest.now) (finding_lists c.args.finding_components.now c.args.finding_polarities.now c.args.finding_units.now c.args.finding_start_ticks.now c.args.finding_end_ticks.now c.args.finding_widths.now c.args.finding_steady.now c.args.finding_baselines.now c.args.finding_starts.now c.args.finding_ends.now c.args.finding_verdicts.now c.args.finding_rationales.now) c.shortest.result c.shortest.ensures c.check_trace-checked.ensures) c.in-Accepted.is _ (omega (arith, found-count c.args.ticks.now c.args.components.now c.args.powered.now (accepted-trace c.args.start c.args.unit (event_lists c.args.ticks.now c.args.components.now c.args.powered.now) (contract_lists c.args.contract_components.now c.args.contract_intents.now c.args.contract_powered.now c.args.contract_polarities.now c.args.contract_units.now c.args.contract_smallest.now c.args.contract_largest.now) (finding_lists c.args.finding_components.now c.args.finding_polarities.now c.args.finding_units.now c.args.finding_start_ticks.now c.args.finding_end_ticks.now c.args.finding_widths.now c.args.finding_steady.now c.args.finding_baselines.now c.args.finding_starts.now c.args.finding_ends.now c.args.finding_verdicts.now c.args.finding_rationales.now) (checked-by c.args.start c.args.unit (event_lists c.args.ticks.now c.args.components.now c.args.powered.now) (contract_lists c.args.contract_components.now c.args.contract_intents.now c.args.contract_powered.now c.args.contract_polarities.now c.args.contract_units.now c.args.contract_smallest.now c.args.contract_largest.now) (finding_lists c.args.finding_components.now c.args.finding_polarities.now c.args.finding_units.now c.args.finding_start_ticks.now c.args.finding_end_ticks.now c.args.finding_widths.now c.args.finding_steady.now c.args.finding_baselines.now c.args.finding_starts.now c.args.finding_ends.now c.args.finding_verdicts.now c.args.finding_rationales.now) c.shortest.result c.shortest.ensures c.check_trace-checked.ensures) c.in-Accepted.is).events_aligned c.find_pulses-count.ensures, found-few c.args.ticks.now c.args.components.now c.args.powered.now (accepted-trace c.args.start c.args.unit (event_lists c.args.ticks.now c.args.components.now c.args.powered.now) (contract_lists c.args.contract_components.now c.args.contract_intents.now c.args.contract_powered.now c.args.contract_polarities.now c.args.contract_units.now c.args.contract_smallest.now c.args.contract_largest.now) (finding_lists c.args.finding_components.now c.args.finding_polarities.now c.args.finding_units.now c.args.finding_start_ticks.now c.args.finding_end_ticks.now c.args.finding_widths.now c.args.finding_steady.now c.args.finding_baselines.now c.args.finding_starts.now c.args.finding_ends.now c.args.finding_verdicts.now c.args.finding_rationales.now) (checked-by c.args.start c.args.unit (event_lists c.args.ticks.now c.args.components.now c.args.powered.now) (contract_lists c.args.contract_components.now c.args.contract_intents.now c.args.contract_powered.now c.args.contract_polarities.now c.args.contract_units.now c.args.contract_smallest.now c.args.contract_largest.now) (finding_lists c.args.finding_components.now c.args.finding_polarities.now c.args.finding_units.now c.args.finding_start_ticks.now c.args.finding_end_ticks.now c.args.finding_widths.now c.args.finding_steady.now c.args.finding_baselines.now c.args.finding_starts.now c.args.finding_ends.now c.args.finding_verdicts.now c.args.finding_rationales.now) c.shortest.result c.shortest.ensures c.check_trace-checked.ensures) c.in-Accepted.is).events_aligned c.find_pulses-count.ensures)))
 
 pub returns-in-Refused : goal.returns-in-Refused
 unfolding finding_lengths

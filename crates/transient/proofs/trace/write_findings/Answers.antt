@@ -6,13 +6,13 @@ use Rattle.transient.proofs.TraceSteps.{rooms, all-fields}
 use Rattle.transient.proofs.trace.write_findings.Goals as goal
 
 pub list_pulses-requires : goal.list_pulses-requires
-list_pulses-requires c = (c.requires.0, c.requires.1, (rooms c.args.start (length c.args.places.now) (finding_lists c.args.finding_components.now c.args.finding_polarities.now c.args.finding_units.now c.args.finding_start_ticks.now c.args.finding_end_ticks.now c.args.finding_widths.now c.args.finding_steady.now c.args.finding_baselines.now c.args.finding_starts.now c.args.finding_ends.now c.args.finding_verdicts.now c.args.finding_rationales.now) c.requires.4).components-room, (rooms c.args.start (length c.args.places.now) (finding_lists c.args.finding_components.now c.args.finding_polarities.now c.args.finding_units.now c.args.finding_start_ticks.now c.args.finding_end_ticks.now c.args.finding_widths.now c.args.finding_steady.now c.args.finding_baselines.now c.args.finding_starts.now c.args.finding_ends.now c.args.finding_verdicts.now c.args.finding_rationales.now) c.requires.4).polarities-room, (rooms c.args.start (length c.args.places.now) (finding_lists c.args.finding_components.now c.args.finding_polarities.now c.args.finding_units.now c.args.finding_start_ticks.now c.args.finding_end_ticks.now c.args.finding_widths.now c.args.finding_steady.now c.args.finding_baselines.now c.args.finding_starts.now c.args.finding_ends.now c.args.finding_verdicts.now c.args.finding_rationales.now) c.requires.4).units-room, (rooms c.args.start (length c.args.places.now) (finding_lists c.args.finding_components.now c.args.finding_polarities.now c.args.finding_units.now c.args.finding_start_ticks.now c.args.finding_end_ticks.now c.args.finding_widths.now c.args.finding_steady.now c.args.finding_baselines.now c.args.finding_starts.now c.args.finding_ends.now c.args.finding_verdicts.now c.args.finding_rationales.now) c.requires.4).start-ticks-room, (rooms c.args.start (length c.args.places.now) (finding_lists c.args.finding_components.now c.args.finding_polarities.now c.args.finding_units.now c.args.finding_start_ticks.now c.args.finding_end_ticks.now c.args.finding_widths.now c.args.finding_steady.now c.args.finding_baselines.now c.args.finding_starts.now c.args.finding_ends.now c.args.finding_verdicts.now c.args.finding_rationales.now) c.requires.4).end-ticks-room, (rooms c.args.start (length c.args.places.now) (finding_lists c.args.finding_components.now c.args.finding_polarities.now c.args.finding_units.now c.args.finding_start_ticks.now c.args.finding_end_ticks.now c.args.finding_widths.now c.args.finding_steady.now c.args.finding_baselines.now c.args.finding_starts.now c.args.finding_ends.now c.args.finding_verdicts.now c.args.finding_rationales.now) c.requires.4).widths-room)
+list_pulses-requires c = (c.requires.0, c.requires.1, (rooms c.args.start (length c.args.places.now) (finding_lists c.args.finding_components.now c.args.finding_polarities.now c.args.finding_units.now c.args.finding_start_ticks.now c.args.finding_end_ticks.now c.args.finding_widths.now c.args.finding_steady.now c.args.finding_baselines.now c.args.finding_starts.now c.args.finding_ends.now c.args.finding_verdicts.now c.args.finding_rationales.now) c.requires.4).components_room, (rooms c.args.start (length c.args.places.now) (finding_lists c.args.finding_components.now c.args.finding_polarities.now c.args.finding_units.now c.args.finding_start_ticks.now c.args.finding_end_ticks.now c.args.finding_widths.now c.args.finding_steady.now c.args.finding_baselines.now c.args.finding_starts.now c.args.finding_ends.now c.args.finding_verdicts.now c.args.finding_rationales.now) c.requires.4).polarities_room, (rooms c.args.start (length c.args.places.now) (finding_lists c.args.finding_components.now c.args.finding_polarities.now c.args.finding_units.now c.args.finding_start_ticks.now c.args.finding_end_ticks.now c.args.finding_widths.now c.args.finding_steady.now c.args.finding_baselines.now c.args.finding_starts.now c.args.finding_ends.now c.args.finding_verdicts.now c.args.finding_rationales.now) c.requires.4).units_room, (rooms c.args.start (length c.args.places.now) (finding_lists c.args.finding_components.now c.args.finding_polarities.now c.args.finding_units.now c.args.finding_start_ticks.now c.args.finding_end_ticks.now c.args.finding_widths.now c.args.finding_steady.now c.args.finding_baselines.now c.args.finding_starts.now c.args.finding_ends.now c.args.finding_verdicts.now c.args.finding_rationales.now) c.requires.4).start_ticks_room, (rooms c.args.start (length c.args.places.now) (finding_lists c.args.finding_components.now c.args.finding_polarities.now c.args.finding_units.now c.args.finding_start_ticks.now c.args.finding_end_ticks.now c.args.finding_widths.now c.args.finding_steady.now c.args.finding_baselines.now c.args.finding_starts.now c.args.finding_ends.now c.args.finding_verdicts.now c.args.finding_rationales.now) c.requires.4).end_ticks_room, (rooms c.args.start (length c.args.places.now) (finding_lists c.args.finding_components.now c.args.finding_polarities.now c.args.finding_units.now c.args.finding_start_ticks.now c.args.finding_end_ticks.now c.args.finding_widths.now c.args.finding_steady.now c.args.finding_baselines.now c.args.finding_starts.now c.args.finding_ends.now c.args.finding_verdicts.now c.args.finding_rationales.now) c.requires.4).widths_room)
 
 pub list_evidence-requires : goal.list_evidence-requires
-list_evidence-requires c = (c.requires.0, (rooms c.args.start (length c.args.places.now) (finding_lists c.args.finding_components.now c.args.finding_polarities.now c.args.finding_units.now c.args.finding_start_ticks.now c.args.finding_end_ticks.now c.args.finding_widths.now c.args.finding_steady.now c.args.finding_baselines.now c.args.finding_starts.now c.args.finding_ends.now c.args.finding_verdicts.now c.args.finding_rationales.now) c.requires.4).steady-room, (rooms c.args.start (length c.args.places.now) (finding_lists c.args.finding_components.now c.args.finding_polarities.now c.args.finding_units.now c.args.finding_start_ticks.now c.args.finding_end_ticks.now c.args.finding_widths.now c.args.finding_steady.now c.args.finding_baselines.now c.args.finding_starts.now c.args.finding_ends.now c.args.finding_verdicts.now c.args.finding_rationales.now) c.requires.4).baselines-room, (rooms c.args.start (length c.args.places.now) (finding_lists c.args.finding_components.now c.args.finding_polarities.now c.args.finding_units.now c.args.finding_start_ticks.now c.args.finding_end_ticks.now c.args.finding_widths.now c.args.finding_steady.now c.args.finding_baselines.now c.args.finding_starts.now c.args.finding_ends.now c.args.finding_verdicts.now c.args.finding_rationales.now) c.requires.4).starts-room, (rooms c.args.start (length c.args.places.now) (finding_lists c.args.finding_components.now c.args.finding_polarities.now c.args.finding_units.now c.args.finding_start_ticks.now c.args.finding_end_ticks.now c.args.finding_widths.now c.args.finding_steady.now c.args.finding_baselines.now c.args.finding_starts.now c.args.finding_ends.now c.args.finding_verdicts.now c.args.finding_rationales.now) c.requires.4).ends-room)
+list_evidence-requires c = (c.requires.0, (rooms c.args.start (length c.args.places.now) (finding_lists c.args.finding_components.now c.args.finding_polarities.now c.args.finding_units.now c.args.finding_start_ticks.now c.args.finding_end_ticks.now c.args.finding_widths.now c.args.finding_steady.now c.args.finding_baselines.now c.args.finding_starts.now c.args.finding_ends.now c.args.finding_verdicts.now c.args.finding_rationales.now) c.requires.4).steady_room, (rooms c.args.start (length c.args.places.now) (finding_lists c.args.finding_components.now c.args.finding_polarities.now c.args.finding_units.now c.args.finding_start_ticks.now c.args.finding_end_ticks.now c.args.finding_widths.now c.args.finding_steady.now c.args.finding_baselines.now c.args.finding_starts.now c.args.finding_ends.now c.args.finding_verdicts.now c.args.finding_rationales.now) c.requires.4).baselines_room, (rooms c.args.start (length c.args.places.now) (finding_lists c.args.finding_components.now c.args.finding_polarities.now c.args.finding_units.now c.args.finding_start_ticks.now c.args.finding_end_ticks.now c.args.finding_widths.now c.args.finding_steady.now c.args.finding_baselines.now c.args.finding_starts.now c.args.finding_ends.now c.args.finding_verdicts.now c.args.finding_rationales.now) c.requires.4).starts_room, (rooms c.args.start (length c.args.places.now) (finding_lists c.args.finding_components.now c.args.finding_polarities.now c.args.finding_units.now c.args.finding_start_ticks.now c.args.finding_end_ticks.now c.args.finding_widths.now c.args.finding_steady.now c.args.finding_baselines.now c.args.finding_starts.now c.args.finding_ends.now c.args.finding_verdicts.now c.args.finding_rationales.now) c.requires.4).ends_room)
 
 pub judge_pulses-requires : goal.judge_pulses-requires
-judge_pulses-requires c = (c.requires.0, c.requires.2, c.requires.3, (rooms c.args.start (length c.args.places.now) (finding_lists c.args.finding_components.now c.args.finding_polarities.now c.args.finding_units.now c.args.finding_start_ticks.now c.args.finding_end_ticks.now c.args.finding_widths.now c.args.finding_steady.now c.args.finding_baselines.now c.args.finding_starts.now c.args.finding_ends.now c.args.finding_verdicts.now c.args.finding_rationales.now) c.requires.4).verdicts-room, (rooms c.args.start (length c.args.places.now) (finding_lists c.args.finding_components.now c.args.finding_polarities.now c.args.finding_units.now c.args.finding_start_ticks.now c.args.finding_end_ticks.now c.args.finding_widths.now c.args.finding_steady.now c.args.finding_baselines.now c.args.finding_starts.now c.args.finding_ends.now c.args.finding_verdicts.now c.args.finding_rationales.now) c.requires.4).rationales-room)
+judge_pulses-requires c = (c.requires.0, c.requires.2, c.requires.3, (rooms c.args.start (length c.args.places.now) (finding_lists c.args.finding_components.now c.args.finding_polarities.now c.args.finding_units.now c.args.finding_start_ticks.now c.args.finding_end_ticks.now c.args.finding_widths.now c.args.finding_steady.now c.args.finding_baselines.now c.args.finding_starts.now c.args.finding_ends.now c.args.finding_verdicts.now c.args.finding_rationales.now) c.requires.4).verdicts_room, (rooms c.args.start (length c.args.places.now) (finding_lists c.args.finding_components.now c.args.finding_polarities.now c.args.finding_units.now c.args.finding_start_ticks.now c.args.finding_end_ticks.now c.args.finding_widths.now c.args.finding_steady.now c.args.finding_baselines.now c.args.finding_starts.now c.args.finding_ends.now c.args.finding_verdicts.now c.args.finding_rationales.now) c.requires.4).rationales_room)
 
 pub shape_of-finding_components : goal.shape_of-finding_components
 shape_of-finding_components c = c.list_pulses.auto.finding_components
