@@ -1,25 +1,18 @@
 -- From the checks and the passes to the call. Assumes nothing.
-use mathlib.Core.Bool.{Bool}
 use mathlib.Core.List.Memᴰ
-use mathlib.Core.List.{List, [], ◌∷◌, map}
-use mathlib.Core.Path.{◌≡◌, refl, sym, ap, subst, ◌∙◌}
-use Prim.Native.Nat.{ℕ, ◌-◌, ◌≤◌}
-use native.Mathlib.Omega.{arith}
-use lib.ListN.{length, take}
-use lib.Seq.{length-take-le}
+use Rattle.std.proofs.Common.{Result, Ok, ◌≡◌, ℕ, ◌-◌, ◌≤◌, List, [], ◌∷◌, map, length, take, refl, sym, ap, ◌∙◌, arith}
+use Rattle.std.proofs.lemmas.List.{length-take-le}
 use Rattle.rules.specs.Lists.{count, written}
 use Rattle.rules.specs.Ordered.{ordered}
 use Rattle.rules.specs.Graph.{Edge, edges_between}
-use Rattle.rules.specs.Scene.{ComponentLists, component_lists, ConnectionLists, components_of, connections_of, edges_of, scene_of}
+use Rattle.rules.specs.Scene.{ComponentLists, ConnectionLists, components_of, connections_of, edges_of, scene_of}
 use Rattle.rules.specs.Labels.{settled_flag, low_sum, high_sum}
 use Rattle.rules.specs.Reasons.{reason_kind, reason_component, reason_block, reason_minimum, reason_maximum}
 use Rattle.rules.specs.Projection.{compressed, path_ids, path_starts, path_length}
-use Rattle.rules.specs.Refusals.{scene_limits, room_outputs, shortest, EachListed}
-use Rattle.rules.specs.Assess.{scene_answer, scene_numbers, assess_outputs, check_assess, assessment, AssessLists, assess_checked, AssessedBy, AssessCall}
-use Rattle.rules.specs.declared.answers.Checked.{Checked}
-use Rattle.rules.specs.declared.answers.Checked.TheVariants.{Accepted, Refused}
-use Rattle.rules.specs.declared.answers.SceneAnswer.{SceneAnswer}
-use Rattle.rules.specs.declared.answers.SceneAnswer.TheVariants as Answer
+use Rattle.rules.specs.Refusals.{accepted, scene_limits, room_outputs, check_scene}
+use Rattle.rules.specs.Assess.{scene_answer, scene_numbers, assess_outputs, check_assess, assessment, AssessLists, assess_checked, AssessCall}
+use Rattle.rules.specs.declared.answers.Assessment.{Assessment}
+use Rattle.rules.specs.declared.answers.Refusal.{Refusal}
 use Rattle.rules.proofs.Acceptance.{AcceptedScene, accepted→}
 use Rattle.rules.proofs.Counts.{count-both}
 use Rattle.rules.proofs.Columns.{components_length}
@@ -29,103 +22,93 @@ use Rattle.laws.proofs.PositionEdges.{inside-sources, inside-sinks}
 use Rattle.graph.specs.Adjacency.{Below}
 use Rattle.projection.specs.declared.Projected.{Projected}
 use Rattle.projection.specs.Entries.{retained_count}
-use Rattle.projection.specs.Projecting.{projected_lists, node_lists, Projecting}
+use Rattle.projection.specs.Projecting.{ProjectedLists, projected_lists, Projecting}
 use Rattle.reasons.specs.declared.ReasonsAssessed.{ReasonsAssessed}
 use Rattle.reasons.specs.Assessed.{Assessable, OutputRoom, ReasonsFound}
-use Rattle.reasons.specs.Rows.{columns}
+use Rattle.reasons.specs.Rows.{Columns, columns}
+use Rattle.reasons.specs.Sums.{LabelColumns, label_columns}
 use Rattle.reasons.proofs.ByIds.{shared-feedback, reasons-by-ids, labels-by-ids, scope-by-ids, pattern-by-ids}
-use Rattle.scene.specs.Indexed.{IndexRoom, Positions}
-use Rattle.scene.specs.ScenePositions.{ScenePositioned, Tested}
-use Rattle.scene.proofs.PositionSteps.{room_fits}
+use Rattle.scene.specs.Lent.{PositionLists}
+use Rattle.scene.specs.Indexed.{IndexRoom, PositionsOf, Tested}
 use Rattle.assess.specs.Answer.{assessed_of}
-use Rattle.assess.specs.Nodes.{delays_of, inverts_of, compressible_of, PositionsLent, ProjectionReady}
+use Rattle.assess.specs.Nodes.{delays_of, inverts_of, compressible_of}
+use Rattle.assess.specs.Ready.{assessment_room, SceneReady, scene_nodes, ProjectionReady}
 use Rattle.assess.proofs.ProjectedByIds.{marks-by-ids, entries-by-ids, retained-by-ids}
 use Rattle.assess.proofs.Rising.{ids-rise}
 
--- the scene tested by the shortest lengths
-pub tested : (l : ComponentLists) (m : ConnectionLists) (l3 l6 l8 : List ℕ) (n4 n5 n7 : ℕ) (order starts stops order' starts' stops' : List ℕ) (room : Bool) (checked : Checked) (edges r3 r6 r8 : ℕ)
-    → IndexRoom order starts stops → EachListed (l3 ∷ l6 ∷ l8 ∷ []) → r3 ≡ shortest l3 → r6 ≡ shortest l6 → r8 ≡ shortest l8
-    → ScenePositioned scene_limits l m (room_outputs (length l.ids) (length m.sources) 3 (r3 ∷ n4 ∷ n5 ∷ r6 ∷ n7 ∷ r8 ∷ [])) order starts stops order' starts' stops' room checked edges
-    → Tested (check_assess scene_limits l m l3 (n4 ∷ []) (n5 ∷ []) l6 (n7 ∷ []) l8) l.ids m order' starts' stops' checked edges
-tested l m l3 l6 l8 n4 n5 n7 order starts stops order' starts' stops' room checked edges r3 r6 r8 fits listed e3 e6 e8 s =
-    let i = s.indexed (s.answer ∙ room_fits order starts stops fits) in
-    record {
-      answer = i.answer ∙ cc (e3, e6, e8) ∙ sym (shortest-assess scene_limits l m l3 (n4 ∷ []) (n5 ∷ []) l6 (n7 ∷ []) l8 (listed.0, (tt, (tt, (listed.1.0, (tt, (listed.1.1.0, tt)))))));
-      accepted = i.positions;
-    }
+-- the columns of lists 3, 6 with 7, and 8
+abbrev reason_columns : AssessLists → Columns
+reason_columns o = columns o.reason_kinds o.reason_components o.reason_blocks o.reason_minimums o.reason_maximums
+
+abbrev projection_columns : AssessLists → ProjectedLists
+projection_columns o =
+    projected_lists o.projected_sources o.projected_sinks o.projected_inverted o.projected_minimums o.projected_maximums o.projected_starts o.projected_lengths o.path_ids
+
+abbrev labels_of : AssessLists → LabelColumns
+labels_of o = label_columns o.label_settled o.label_lows o.label_highs
 
 module _ (l : ComponentLists) (m : ConnectionLists) (old : AssessLists) where
-  pub call-refused : (number place : ℕ) → Refused number place ≡ assess_checked scene_limits l m old → AssessCall scene_limits l m old old (Answer.Refused number place)
-  call-refused number place e = subst (λ c. AssessedBy c (scene_of l m) old old (Answer.Refused number place)) e (record {
-    answered = refl;
-    numbered = refl;
-    reason_kinds = refl;
-    reason_components = refl;
-    reason_blocks = refl;
-    reason_minimums = refl;
-    reason_maximums = refl;
-    feedback_ids = refl;
-    marks = refl;
-    projected_sources = refl;
-    projected_sinks = refl;
-    projected_inverted = refl;
-    projected_minimums = refl;
-    projected_maximums = refl;
-    projected_starts = refl;
-    projected_lengths = refl;
-    path_ids = refl;
-    label_settled = refl;
-    label_lows = refl;
-    label_highs = refl;
-  })
+  -- the scene tested by the shortest lengths
+  pub by_room : (p : PositionLists) (room : List ℕ) (answer : Result ℕ Refusal) → room ≡ assessment_room old → Tested (check_scene scene_limits l m (room_outputs (length l.ids) (length m.sources) 3 room)) l.ids m p answer
+      → Tested (assess_checked scene_limits l m old) l.ids m p answer
+  by_room p room answer e t = record { checked = t.checked ∙ rw e (sym (shortest-assess scene_limits l m _ _ _ _ _ _ (tt, (tt, (tt, (tt, (tt, (tt, tt)))))))); accepted = t.accepted }
 
-  module _ (accepted : Accepted ≡ assess_checked scene_limits l m old) (order starts stops : List ℕ) (edges : ℕ) (room : IndexRoom order starts stops) (p : Positions l.ids m order starts stops edges) where
+  module _ (accepts : assess_checked scene_limits l m old ≡ accepted) where
     scene : AcceptedScene scene_limits l m (assess_outputs (length l.ids) (length m.sources)
         (length old.reason_kinds ∷ length old.reason_components ∷ length old.reason_blocks ∷ length old.reason_minimums ∷ length old.reason_maximums ∷ [])
         (length old.feedback_ids ∷ []) (length old.marks ∷ [])
         (length old.projected_sources ∷ length old.projected_sinks ∷ length old.projected_inverted ∷ length old.projected_minimums ∷ length old.projected_maximums ∷ length old.projected_starts ∷ length old.projected_lengths ∷ [])
         (length old.path_ids ∷ []) (length old.label_settled ∷ length old.label_lows ∷ length old.label_highs ∷ []))
     unfolding check_assess
-    scene = accepted→ scene_limits l m _ (sym accepted)
+    scene = accepted→ scene_limits l m _ accepts
 
-    pub lent : PositionsLent (length l.ids) edges starts stops order
-    lent = record {
-      starts_room = omega (arith, p.edges_few, scene.connections_few, room.starts_room);
-      stops_room = omega (arith, p.edges_few, scene.connections_few, room.stops_room);
-      order_room = omega (arith, scene.components_few, room.order_room);
-    }
+    pub components_few : length l.ids ≤ scene_limits.components
+    components_few = scene.components_few
 
-    starts-length : length (take edges starts) ≡ edges
-    starts-length = length-take-le edges starts lent.starts_room
+    module _ (p : PositionLists) (edges : ℕ) (placed : PositionsOf l.ids m p edges) where
+      pub edges_few : edges ≤ scene_limits.connections
+      edges_few = omega (arith, placed.edges_few, scene.connections_few)
 
-    pairs : length (take edges stops) ≡ length (take edges starts)
-    pairs = length-take-le edges stops lent.stops_room ∙ sym starts-length
+      -- the fronts of the lists of positions
+      pub scene_ready : IndexRoom p → SceneReady l m old (take edges p.starts) (take edges p.stops) (take (length l.ids) p.order)
+      scene_ready room =
+          let s = length-take-le edges p.starts (omega (arith, edges_few, room.starts_room)) in
+          let t = length-take-le edges p.stops (omega (arith, edges_few, room.stops_room)) in
+          record { accepts = accepts; sorted = placed.sorted; edges_few = omega (arith, s, placed.edges_few); pairs = t ∙ sym s; positioned = placed.positioned }
 
-    sources_below : Below (length l.ids) (take edges starts)
-    sources_below = inside-sources (length l.ids) (take edges starts) (take edges stops) (sym pairs) p.positioned.inside
+  module _ {sources sinks order : List ℕ} (ready : SceneReady l m old sources sinks order) where
+    abbrev here : AcceptedScene scene_limits l m (assess_outputs (length l.ids) (length m.sources)
+        (length old.reason_kinds ∷ length old.reason_components ∷ length old.reason_blocks ∷ length old.reason_minimums ∷ length old.reason_maximums ∷ [])
+        (length old.feedback_ids ∷ []) (length old.marks ∷ [])
+        (length old.projected_sources ∷ length old.projected_sinks ∷ length old.projected_inverted ∷ length old.projected_minimums ∷ length old.projected_maximums ∷ length old.projected_starts ∷ length old.projected_lengths ∷ [])
+        (length old.path_ids ∷ []) (length old.label_settled ∷ length old.label_lows ∷ length old.label_highs ∷ []))
+    here = scene ready.accepts
 
-    sinks_below : Below (length l.ids) (take edges stops)
-    sinks_below = inside-sinks (length l.ids) (take edges starts) (take edges stops) (sym pairs) p.positioned.inside
+    sources_below : Below (length l.ids) sources
+    sources_below = inside-sources (length l.ids) sources sinks (sym ready.pairs) ready.positioned.inside
 
-    order_below : Below (length l.ids) (take (length l.ids) order)
-    order_below = rw p.sorted (λ k h. ordered-below l.ids k (omega (arith, ordered-length l.ids)))
+    sinks_below : Below (length l.ids) sinks
+    sinks_below = inside-sinks (length l.ids) sources sinks (sym ready.pairs) ready.positioned.inside
 
-    pub assessable : Assessable l.ids l.kinds l.delays l.locked (take edges starts) (take edges stops) (take (length l.ids) order)
+    order_below : Below (length l.ids) order
+    order_below = rw ready.sorted (λ k h. ordered-below l.ids k (omega (arith, ordered-length l.ids)))
+
+    pub assessable : Assessable l sources sinks order
     assessable =
-        let a = scene.components_aligned in
+        let a = here.components_aligned in
         record {
           kinds_length = a.kinds_length;
           delays_length = a.delays_length;
           locked_length = a.locked_length;
-          linked = record { pairs = pairs; nodes_few = scene.components_few; edges_few = omega (arith, starts-length, p.edges_few, scene.connections_few); inside = p.positioned.inside };
-          order_few = omega (arith, length-take-le (length l.ids) order lent.order_room);
+          linked = record { pairs = ready.pairs; nodes_few = here.components_few; edges_few = omega (arith, ready.edges_few, here.connections_few); inside = ready.positioned.inside };
+          order_few = omega (arith, ap length ready.sorted, ordered-length l.ids);
           positions = order_below;
         }
 
-    pub output-room : OutputRoom (length l.ids) (columns old.reason_kinds old.reason_components old.reason_blocks old.reason_minimums old.reason_maximums) old.feedback_ids old.label_settled old.label_lows old.label_highs
+    pub output-room : OutputRoom (length l.ids) (reason_columns old) old.feedback_ids (labels_of old)
     output-room =
-        let three = scene.outputs_long _ (Memᴰ.head refl) in
-        let eight = scene.outputs_long _ (Memᴰ.tail (Memᴰ.tail (Memᴰ.tail (Memᴰ.tail (Memᴰ.tail (Memᴰ.head refl)))))) in
+        let three = here.outputs_long _ (Memᴰ.head refl) in
+        let eight = here.outputs_long _ (Memᴰ.tail (Memᴰ.tail (Memᴰ.tail (Memᴰ.tail (Memᴰ.tail (Memᴰ.head refl)))))) in
         record {
           reason_room = record {
             kind_room = three _ (Memᴰ.head refl);
@@ -134,85 +117,81 @@ module _ (l : ComponentLists) (m : ConnectionLists) (old : AssessLists) where
             minimum_room = three _ (Memᴰ.tail (Memᴰ.tail (Memᴰ.tail (Memᴰ.head refl))));
             maximum_room = three _ (Memᴰ.tail (Memᴰ.tail (Memᴰ.tail (Memᴰ.tail (Memᴰ.head refl)))));
           };
-          feedback_room = scene.outputs_long _ (Memᴰ.tail (Memᴰ.head refl)) _ (Memᴰ.head refl);
+          feedback_room = here.outputs_long _ (Memᴰ.tail (Memᴰ.head refl)) _ (Memᴰ.head refl);
           settled_room = eight _ (Memᴰ.head refl);
           lows_room = eight _ (Memᴰ.tail (Memᴰ.head refl));
           highs_room = eight _ (Memᴰ.tail (Memᴰ.tail (Memᴰ.head refl)));
         }
 
-    pub ready : ProjectionReady l.ids l.kinds l.delays starts stops edges order old.marks
-        (projected_lists old.projected_sources old.projected_sinks old.projected_inverted old.projected_minimums old.projected_maximums old.projected_starts old.projected_lengths old.path_ids)
-    ready =
-        let a = scene.components_aligned in
-        let six = scene.outputs_long _ (Memᴰ.tail (Memᴰ.tail (Memᴰ.tail (Memᴰ.head refl)))) in
+    pub projection_ready : ProjectionReady l sources sinks order old.marks (projection_columns old)
+    projection_ready =
+        let a = here.components_aligned in
+        let few = ready.edges_few in
+        let six = here.outputs_long _ (Memᴰ.tail (Memᴰ.tail (Memᴰ.tail (Memᴰ.head refl)))) in
         record {
           kinds_length = a.kinds_length;
           delays_length = a.delays_length;
-          nodes_few = scene.components_few;
-          edges_few = omega (arith, p.edges_few, scene.connections_few);
-          positions = lent;
+          nodes_few = here.components_few;
+          edges_few = omega (arith, few, here.connections_few);
+          pairs = ready.pairs;
           sources_below = sources_below;
           sinks_below = sinks_below;
           order_below = order_below;
-          rising = rw p.sorted (ids-rise l.ids scene.ids_distinct);
-          marks_room = scene.outputs_long _ (Memᴰ.tail (Memᴰ.tail (Memᴰ.head refl))) _ (Memᴰ.head refl);
-          sources_room = omega (arith, p.edges_few, six _ (Memᴰ.head refl));
-          sinks_room = omega (arith, p.edges_few, six _ (Memᴰ.tail (Memᴰ.head refl)));
-          inverted_room = omega (arith, p.edges_few, six _ (Memᴰ.tail (Memᴰ.tail (Memᴰ.head refl))));
-          minimums_room = omega (arith, p.edges_few, six _ (Memᴰ.tail (Memᴰ.tail (Memᴰ.tail (Memᴰ.head refl)))));
-          maximums_room = omega (arith, p.edges_few, six _ (Memᴰ.tail (Memᴰ.tail (Memᴰ.tail (Memᴰ.tail (Memᴰ.head refl))))));
-          path_starts_room = omega (arith, p.edges_few, six _ (Memᴰ.tail (Memᴰ.tail (Memᴰ.tail (Memᴰ.tail (Memᴰ.tail (Memᴰ.head refl)))))));
-          path_lengths_room = omega (arith, p.edges_few, six _ (Memᴰ.tail (Memᴰ.tail (Memᴰ.tail (Memᴰ.tail (Memᴰ.tail (Memᴰ.tail (Memᴰ.head refl))))))));
-          paths_room = omega (arith, p.edges_few, scene.outputs_long _ (Memᴰ.tail (Memᴰ.tail (Memᴰ.tail (Memᴰ.tail (Memᴰ.head refl))))) _ (Memᴰ.head refl));
+          rising = rw ready.sorted (ids-rise l.ids here.ids_distinct);
+          marks_room = here.outputs_long _ (Memᴰ.tail (Memᴰ.tail (Memᴰ.head refl))) _ (Memᴰ.head refl);
+          sources_room = omega (arith, few, six _ (Memᴰ.head refl));
+          sinks_room = omega (arith, few, six _ (Memᴰ.tail (Memᴰ.head refl)));
+          inverted_room = omega (arith, few, six _ (Memᴰ.tail (Memᴰ.tail (Memᴰ.head refl))));
+          minimums_room = omega (arith, few, six _ (Memᴰ.tail (Memᴰ.tail (Memᴰ.tail (Memᴰ.head refl)))));
+          maximums_room = omega (arith, few, six _ (Memᴰ.tail (Memᴰ.tail (Memᴰ.tail (Memᴰ.tail (Memᴰ.head refl))))));
+          path_starts_room = omega (arith, few, six _ (Memᴰ.tail (Memᴰ.tail (Memᴰ.tail (Memᴰ.tail (Memᴰ.tail (Memᴰ.head refl)))))));
+          path_lengths_room = omega (arith, few, six _ (Memᴰ.tail (Memᴰ.tail (Memᴰ.tail (Memᴰ.tail (Memᴰ.tail (Memᴰ.tail (Memᴰ.head refl))))))));
+          paths_room = omega (arith, few, here.outputs_long _ (Memᴰ.tail (Memᴰ.tail (Memᴰ.tail (Memᴰ.tail (Memᴰ.head refl))))) _ (Memᴰ.head refl));
         }
 
     abbrev es : List Edge
     es = edges_of (connections_of m)
 
     abbrev taken : List Edge
-    taken = edges_between (take edges starts) (take edges stops)
+    taken = edges_between sources sinks
 
     -- the components that are not retained are compressed
-    retained-few : (r : ℕ) → r ≡ retained_count (edges_between (take edges starts) (take edges stops)) (compressible_of l.kinds) (length l.ids) → (r ≤ length l.ids) × (length l.ids - r ≡ count (λ c. compressed (components_of l) (edges_of (connections_of m)) c.id) (components_of l))
+    retained-few : (r : ℕ) → r ≡ retained_count (edges_between sources sinks) (compressible_of l.kinds) (length l.ids) → (r ≤ length l.ids) × (length l.ids - r ≡ count (λ c. compressed (components_of l) (edges_of (connections_of m)) c.id) (components_of l))
     retained-few r e =
         let both = count-both (λ c. compressed (components_of l) es c.id) (components_of l) in
-        let kept = retained-by-ids l scene.ids_distinct scene.components_aligned.kinds_length es taken p.positioned in
+        let kept = retained-by-ids l here.ids_distinct here.components_aligned.kinds_length es taken ready.positioned in
         (omega (arith, both, kept, components_length l), omega (arith, both, kept, components_length l))
 
-    -- the components that are not retained are compressed
-    pub retained-bound : (new : AssessLists) (q : Projected)
-        → Projecting (node_lists l.ids (take edges starts) (take edges stops) (delays_of l.kinds l.delays) (delays_of l.kinds l.delays) (inverts_of l.kinds) (compressible_of l.kinds) (take (length l.ids) order)) old.marks new.marks (projected_lists old.projected_sources old.projected_sinks old.projected_inverted old.projected_minimums old.projected_maximums old.projected_starts old.projected_lengths old.path_ids) (projected_lists new.projected_sources new.projected_sinks new.projected_inverted new.projected_minimums new.projected_maximums new.projected_starts new.projected_lengths new.path_ids) q
-        → q.retained ≤ length l.ids
-    retained-bound new q made = (retained-few q.retained made.retained).0
+    pub retained-bound : {marks' : List ℕ} {c' : ProjectedLists} (q : Projected) → Projecting (scene_nodes l sources sinks order) old.marks marks' (projection_columns old) c' q → q.retained ≤ length l.ids
+    retained-bound q made = (retained-few q.retained made.retained).0
 
     -- what the passes write are the lists of the call
-    call-assessed : (new : AssessLists) (r : ReasonsAssessed) (q : Projected)
-        → ReasonsFound (component_lists l.ids l.kinds l.delays l.locked [] [] []) (take edges starts) (take edges stops) (take (length l.ids) order) (columns old.reason_kinds old.reason_components old.reason_blocks old.reason_minimums old.reason_maximums) old.feedback_ids old.label_settled old.label_lows old.label_highs (columns new.reason_kinds new.reason_components new.reason_blocks new.reason_minimums new.reason_maximums) new.feedback_ids new.label_settled new.label_lows new.label_highs r
-        → Projecting (node_lists l.ids (take edges starts) (take edges stops) (delays_of l.kinds l.delays) (delays_of l.kinds l.delays) (inverts_of l.kinds) (compressible_of l.kinds) (take (length l.ids) order)) old.marks new.marks (projected_lists old.projected_sources old.projected_sinks old.projected_inverted old.projected_minimums old.projected_maximums old.projected_starts old.projected_lengths old.path_ids) (projected_lists new.projected_sources new.projected_sinks new.projected_inverted new.projected_minimums new.projected_maximums new.projected_starts new.projected_lengths new.path_ids) q
-        → AssessCall scene_limits l m old new (assessed_of (length l.ids) r q)
+    pub call-assessed : (new : AssessLists) (r : ReasonsAssessed) (q : Projected) (answer : Assessment)
+        → ReasonsFound l sources sinks order (reason_columns old) old.feedback_ids (labels_of old) (reason_columns new) new.feedback_ids (labels_of new) r
+        → Projecting (scene_nodes l sources sinks order) old.marks new.marks (projection_columns old) (projection_columns new) q
+        → answer ≡ assessed_of (length l.ids) r q
+        → AssessCall scene_limits l m old new (Ok answer)
     unfolding assessment
-    call-assessed new r q found made =
-        let S : List ℕ = take edges starts in
-        let E : List ℕ = take edges stops in
-        let d = scene.ids_distinct in
-        let same = scene.components_aligned.kinds_length in
-        let f : ReasonsFound (component_lists l.ids l.kinds l.delays l.locked [] [] []) (take edges starts) (take edges stops) (ordered l.ids) (columns old.reason_kinds old.reason_components old.reason_blocks old.reason_minimums old.reason_maximums) old.feedback_ids old.label_settled old.label_lows old.label_highs (columns new.reason_kinds new.reason_components new.reason_blocks new.reason_minimums new.reason_maximums) new.feedback_ids new.label_settled new.label_lows new.label_highs r = rw p.sorted at found in
-        let j : Projecting (node_lists l.ids (take edges starts) (take edges stops) (delays_of l.kinds l.delays) (delays_of l.kinds l.delays) (inverts_of l.kinds) (compressible_of l.kinds) (ordered l.ids)) old.marks new.marks (projected_lists old.projected_sources old.projected_sinks old.projected_inverted old.projected_minimums old.projected_maximums old.projected_starts old.projected_lengths old.path_ids) (projected_lists new.projected_sources new.projected_sinks new.projected_inverted new.projected_minimums new.projected_maximums new.projected_starts new.projected_lengths new.path_ids) q = rw p.sorted at made in
-        let reasoned = reasons-by-ids l d es S E p.positioned in
-        let fed = shared-feedback l d es S E p.positioned in
-        let labelled = labels-by-ids l d es S E p.positioned in
-        let marked = marks-by-ids l d same es taken p.positioned in
-        let listed = entries-by-ids l d same es taken p.positioned in
-        let scoped = f.scope_told ∙ scope-by-ids l d es S E p.positioned in
-        let patterned = f.pattern_told ∙ pattern-by-ids l d es S E p.positioned in
-        let kept = made.retained ∙ retained-by-ids l d same es taken p.positioned in
+    call-assessed new r q answer found made e =
+        let d = here.ids_distinct in
+        let same = here.components_aligned.kinds_length in
+        let f : ReasonsFound l sources sinks (ordered l.ids) (reason_columns old) old.feedback_ids (labels_of old) (reason_columns new) new.feedback_ids (labels_of new) r = rw ready.sorted at found in
+        let j : Projecting (scene_nodes l sources sinks (ordered l.ids)) old.marks new.marks (projection_columns old) (projection_columns new) q = rw ready.sorted at made in
+        let reasoned = reasons-by-ids l d es sources sinks ready.positioned in
+        let fed = shared-feedback l d es sources sinks ready.positioned in
+        let labelled = labels-by-ids l d es sources sinks ready.positioned in
+        let marked = marks-by-ids l d same es taken ready.positioned in
+        let listed = entries-by-ids l d same es taken ready.positioned in
+        let scoped = f.scope_told ∙ scope-by-ids l d es sources sinks ready.positioned in
+        let patterned = f.pattern_told ∙ pattern-by-ids l d es sources sinks ready.positioned in
+        let kept = made.retained ∙ retained-by-ids l d same es taken ready.positioned in
         let rest = (retained-few q.retained made.retained).1 in
         let c3 = f.reasons_counted ∙ ap length reasoned in
         let c4 = f.feedback_counted ∙ ap length fed in
         let c6 = j.projected ∙ ap length listed in
         let c7 = j.path_ids ∙ ap (λ ps. length (path_ids ps)) listed in
-        let told : assessed_of (length l.ids) r q ≡ scene_answer Accepted (scene_of l m) = cc (scoped, patterned, kept, rest, c3, c4, c6, c7) in
-        subst (λ c. AssessedBy c (scene_of l m) old new (assessed_of (length l.ids) r q)) accepted (record {
+        let told : ◌≡◌ {A = Result Assessment Refusal} (Ok answer) (scene_answer accepted (scene_of l m)) = cc (e, scoped, patterned, kept, rest, c3, c4, c6, c7) in
+        rw ready.accepts (record {
           answered = told;
           numbered = ap scene_numbers told;
           reason_kinds = f.rows.kinds_written ∙ ap (λ rs. written old.reason_kinds (map reason_kind rs)) reasoned;
@@ -234,10 +213,3 @@ module _ (l : ComponentLists) (m : ConnectionLists) (old : AssessLists) where
           label_lows = f.label_lows ∙ ap (λ ls. written old.label_lows (map low_sum ls)) labelled;
           label_highs = f.label_highs ∙ ap (λ ls. written old.label_highs (map high_sum ls)) labelled;
         })
-
-    pub call-answered : (new : AssessLists) (r : ReasonsAssessed) (q : Projected) (answer : SceneAnswer)
-        → ReasonsFound (component_lists l.ids l.kinds l.delays l.locked [] [] []) (take edges starts) (take edges stops) (take (length l.ids) order) (columns old.reason_kinds old.reason_components old.reason_blocks old.reason_minimums old.reason_maximums) old.feedback_ids old.label_settled old.label_lows old.label_highs (columns new.reason_kinds new.reason_components new.reason_blocks new.reason_minimums new.reason_maximums) new.feedback_ids new.label_settled new.label_lows new.label_highs r
-        → Projecting (node_lists l.ids (take edges starts) (take edges stops) (delays_of l.kinds l.delays) (delays_of l.kinds l.delays) (inverts_of l.kinds) (compressible_of l.kinds) (take (length l.ids) order)) old.marks new.marks (projected_lists old.projected_sources old.projected_sinks old.projected_inverted old.projected_minimums old.projected_maximums old.projected_starts old.projected_lengths old.path_ids) (projected_lists new.projected_sources new.projected_sinks new.projected_inverted new.projected_minimums new.projected_maximums new.projected_starts new.projected_lengths new.path_ids) q
-        → answer ≡ assessed_of (length l.ids) r q
-        → AssessCall scene_limits l m old new answer
-    call-answered new r q answer found made e = subst (λ a. AssessCall scene_limits l m old new a) (sym e) (call-assessed new r q found made)

@@ -1,116 +1,110 @@
 // The call that writes lists 3 to 8.
-ghost use Rattle.std.specs.Prelude.{◌≡◌, [], ◌∷◌, ◌-◌, ◌≤◌, length, take};
-ghost use Rattle.rules.specs.Scene.{component_lists, connection_lists};
-ghost use Rattle.rules.specs.Refusals.{scene_limits, EachListed};
-ghost use Rattle.rules.specs.Assess.{check_assess, assess_lists, AssessCall};
+ghost use Rattle.std.specs.Prelude.{IfOk, ◌≡◌, ◌≤◌, length};
+ghost use Rattle.rules.specs.Lent.{SameAssessment, SameLabels, SameProjection, SameReasons, assessment_lent, components_lent, connections_lent};
+ghost use Rattle.rules.specs.Refusals.{scene_limits};
+ghost use Rattle.rules.specs.Assess.{AssessCall, assess_checked};
 ghost use Rattle.reasons.specs.Assessed.{Assessable, OutputRoom, ReasonsFound};
-ghost use Rattle.reasons.specs.Rows.{columns};
-ghost use Rattle.scene.specs.Indexed.{IndexRoom};
-ghost use Rattle.scene.specs.ScenePositions.{Tested};
+ghost use Rattle.reasons.specs.Lent.{labels_lent, reasons_lent};
+ghost use Rattle.scene.specs.Indexed.{IndexRoom, Tested};
+ghost use Rattle.scene.specs.Lent.{SamePositions, positions_lent};
 ghost use Rattle.assess.specs.Answer.{assessed_of};
-ghost use Rattle.assess.specs.Nodes.{PositionsLent};
+ghost use Rattle.assess.specs.Ready.{SceneReady, assessment_room, grouped};
 
 use crate::project::project_scene;
+use graph::edges::Edges;
 use lengths::shortest;
 use projection::Projected;
 use reasons::{ReasonsAssessed, assess_reasons};
-use rules::answers::{Assessment, Checked, SceneAnswer};
+use rules::answers::{Assessment, Refusal};
+use rules::lent::{AssessmentLists, Components, LabelLists, ProjectionLists, ReasonLists, Scene};
 use rules::limits::{MAX_COMPONENTS, MAX_CONNECTIONS};
-use scene::positions::{ScenePositions, scene_positions};
+use scene::lent::Positions;
+use scene::positions::{Unplaced, scene_positions};
 
-// Tests the scene, given the lengths of the number lists of lists 3 to 8, and indexes it.
-fn test_scene(
-    ids: &[u64],
-    kinds: &[u8],
-    delays: &[u16],
-    locked: &[u8],
-    xs: &[i32],
-    ys: &[i32],
-    zs: &[i32],
-    sources: &[u64],
-    sinks: &[u64],
-    transfers: &[u8],
-    reason_lengths: &[usize],
-    feedback_length: usize,
-    marks_length: usize,
-    projection_lengths: &[usize],
-    paths_length: usize,
-    label_lengths: &[usize],
-    order: &mut [usize],
-    starts: &mut [usize],
-    stops: &mut [usize],
-) -> ScenePositions
-    requires { IndexRoom order.old starts.old stops.old × EachListed (reason_lengths.now ∷ projection_lengths.now ∷ label_lengths.now ∷ []) }
-    ensures { Tested (check_assess scene_limits (component_lists ids.now kinds.now delays.now locked.now xs.now ys.now zs.now) (connection_lists sources.now sinks.now transfers.now) reason_lengths.now (feedback_length ∷ []) (marks_length ∷ []) projection_lengths.now (paths_length ∷ []) label_lengths.now) ids.now (connection_lists sources.now sinks.now transfers.now) order.new starts.new stops.new result.checked result.edges }
+// The shortest lengths of lists 3 to 8.
+fn room_of(
+    reasons: &ReasonLists<'_>,
+    feedback_ids: &[u64],
+    marks: &[u8],
+    projected: &ProjectionLists<'_>,
+    labels: &LabelLists<'_>,
+) -> [usize; 6]
+    ensures { result ≡ assessment_room (grouped reasons.now feedback_ids.now marks.now projected.now labels.now) }
 {
-    let room = [
-        shortest(reason_lengths),
-        feedback_length,
-        marks_length,
-        shortest(projection_lengths),
-        paths_length,
-        shortest(label_lengths),
-    ];
-    scene_positions(
-        ids, kinds, delays, locked, xs, ys, zs, sources, sinks, transfers, 3, &room, order, starts,
-        stops,
-    )
+    [
+        shortest(&[
+            reasons.kinds.len(),
+            reasons.components.len(),
+            reasons.blocks.len(),
+            reasons.minimums.len(),
+            reasons.maximums.len(),
+        ]),
+        feedback_ids.len(),
+        marks.len(),
+        shortest(&[
+            projected.sources.len(),
+            projected.sinks.len(),
+            projected.inverted.len(),
+            projected.minimums.len(),
+            projected.maximums.len(),
+            projected.starts.len(),
+            projected.lengths.len(),
+        ]),
+        projected.path_ids.len(),
+        shortest(&[labels.settled.len(), labels.lows.len(), labels.highs.len()]),
+    ]
 }
 
-// Lists 3, 4 and 8 of an accepted scene, over the fronts of the lists of its positions.
+// Tests the scene, given the lists that it is to be assessed in, and indexes it; answers how many edges there are.
+fn place_scene(
+    scene: &Scene<'_>,
+    reasons: &ReasonLists<'_>,
+    feedback_ids: &[u64],
+    marks: &[u8],
+    projected: &ProjectionLists<'_>,
+    labels: &LabelLists<'_>,
+    positions: &mut Positions<'_>,
+) -> Result<usize, Refusal>
+    requires { IndexRoom (positions_lent positions.old) }
+    ensures same { SamePositions positions.old positions.new }
+    ensures tested { Tested (assess_checked scene_limits (components_lent scene.now.components) (connections_lent scene.now.connections) (grouped reasons.now feedback_ids.now marks.now projected.now labels.now)) scene.now.components.ids.now (connections_lent scene.now.connections) (positions_lent positions.new) result }
+    ensures few_edges { IfOk result (λ count. count ≤ scene_limits.connections) }
+    ensures few_components { IfOk result (λ count. length scene.now.components.ids.now ≤ scene_limits.components) }
+{
+    let room = room_of(reasons, feedback_ids, marks, projected, labels);
+    match scene_positions(scene, 3, &room, positions) {
+        Ok(count) => Ok(count),
+        Err(Unplaced::Refused(refusal)) => Err(refusal),
+        // the positions have room for every scene
+        Err(Unplaced::NoRoom) => unreachable!(),
+    }
+}
+
+// Lists 3, 4 and 8 of an accepted scene, whose lists fit.
 fn reason_scene(
-    ids: &[u64],
-    kinds: &[u8],
-    delays: &[u16],
-    locked: &[u8],
-    starts: &[usize],
-    stops: &[usize],
-    edges: usize,
+    components: &Components<'_>,
+    edges: &Edges<'_>,
     order: &[usize],
-    reason_kinds: &mut [u8],
-    reason_components: &mut [u64],
-    reason_blocks: &mut [u8],
-    reason_minimums: &mut [u32],
-    reason_maximums: &mut [u32],
+    reasons: &mut ReasonLists<'_>,
     feedback_ids: &mut [u64],
-    label_settled: &mut [u8],
-    label_lows: &mut [u32],
-    label_highs: &mut [u32],
+    labels: &mut LabelLists<'_>,
 ) -> ReasonsAssessed
-    requires { PositionsLent (length ids.now) edges starts.now stops.now order.now × Assessable ids.now kinds.now delays.now locked.now (take edges starts.now) (take edges stops.now) (take (length ids.now) order.now) × OutputRoom (length ids.now) (columns reason_kinds.old reason_components.old reason_blocks.old reason_minimums.old reason_maximums.old) feedback_ids.old label_settled.old label_lows.old label_highs.old }
-    ensures { ReasonsFound (component_lists ids.now kinds.now delays.now locked.now [] [] []) (take edges starts.now) (take edges stops.now) (take (length ids.now) order.now) (columns reason_kinds.old reason_components.old reason_blocks.old reason_minimums.old reason_maximums.old) feedback_ids.old label_settled.old label_lows.old label_highs.old (columns reason_kinds.new reason_components.new reason_blocks.new reason_minimums.new reason_maximums.new) feedback_ids.new label_settled.new label_lows.new label_highs.new result }
+    requires { Assessable (components_lent components.now) edges.now.sources.now edges.now.sinks.now order.now × OutputRoom (length components.now.ids.now) (reasons_lent reasons.old) feedback_ids.old (labels_lent labels.old) }
+    ensures same_reasons { SameReasons reasons.old reasons.new }
+    ensures same_labels { SameLabels labels.old labels.new }
+    ensures found { ReasonsFound (components_lent components.now) edges.now.sources.now edges.now.sinks.now order.now (reasons_lent reasons.old) feedback_ids.old (labels_lent labels.old) (reasons_lent reasons.new) feedback_ids.new (labels_lent labels.new) result }
 {
-    let n = ids.len();
-    assess_reasons(
-        ids,
-        kinds,
-        delays,
-        locked,
-        &starts[..edges],
-        &stops[..edges],
-        &order[..n],
-        reason_kinds,
-        reason_components,
-        reason_blocks,
-        reason_minimums,
-        reason_maximums,
-        feedback_ids,
-        label_settled,
-        label_lows,
-        label_highs,
-    )
+    assess_reasons(components, edges, order, reasons, feedback_ids, labels).unwrap()
 }
 
-// The answer for an accepted scene of n components.
-fn assessed(n: usize, reasons: ReasonsAssessed, projected: Projected) -> SceneAnswer
+// The assessment of n components.
+fn assessed(n: usize, reasons: ReasonsAssessed, projected: Projected) -> Assessment
     requires { projected.retained ≤ n }
     ensures { result ≡ assessed_of n reasons projected }
 {
-    let scope = reasons.scope;
-    let pattern = reasons.pattern;
-    SceneAnswer::Assessed(Assessment {
-        scope: scope,
-        pattern: pattern,
+    Assessment {
+        scope: reasons.scope,
+        pattern: reasons.pattern,
         confidence: 100,
         reasons: reasons.reasons as u64,
         feedback: reasons.feedback as u64,
@@ -118,130 +112,96 @@ fn assessed(n: usize, reasons: ReasonsAssessed, projected: Projected) -> SceneAn
         compressed: (n - projected.retained) as u64,
         projected: projected.projected as u64,
         path_ids: projected.path_ids as u64,
-    })
+    }
+}
+
+// Writes the reasons, Feedback ids, marks, projected edges, paths and labels of an accepted scene, whose edges stand over
+// positions.
+fn assess_accepted(
+    scene: &Scene<'_>,
+    placed: &Edges<'_>,
+    order: &[usize],
+    reasons: &mut ReasonLists<'_>,
+    feedback_ids: &mut [u64],
+    marks: &mut [u8],
+    projected: &mut ProjectionLists<'_>,
+    labels: &mut LabelLists<'_>,
+) -> Assessment
+    requires { SceneReady (components_lent scene.now.components) (connections_lent scene.now.connections) (grouped reasons.old feedback_ids.old marks.old projected.old labels.old) placed.now.sources.now placed.now.sinks.now order.now }
+    ensures same_reasons { SameReasons reasons.old reasons.new }
+    ensures same_projection { SameProjection projected.old projected.new }
+    ensures same_labels { SameLabels labels.old labels.new }
+    ensures assessed { AssessCall scene_limits (components_lent scene.now.components) (connections_lent scene.now.connections) (grouped reasons.old feedback_ids.old marks.old projected.old labels.old) (grouped reasons.new feedback_ids.new marks.new projected.new labels.new) (Ok result) }
+{
+    let components = &scene.components;
+    let told = reason_scene(components, placed, order, reasons, feedback_ids, labels);
+    let counts = project_scene(components, placed, order, marks, projected);
+    assessed(components.ids.len(), told, counts)
 }
 
 // Writes the reasons, Feedback ids, marks, projected edges, paths and labels of a scene, or refuses the scene and
 // leaves every list as it was.
-pub fn assess_scene(
-    ids: &[u64],
-    kinds: &[u8],
-    delays: &[u16],
-    locked: &[u8],
-    xs: &[i32],
-    ys: &[i32],
-    zs: &[i32],
-    sources: &[u64],
-    sinks: &[u64],
-    transfers: &[u8],
-    reason_kinds: &mut [u8],
-    reason_components: &mut [u64],
-    reason_blocks: &mut [u8],
-    reason_minimums: &mut [u32],
-    reason_maximums: &mut [u32],
+pub fn assess_lists(
+    scene: &Scene<'_>,
+    reasons: &mut ReasonLists<'_>,
     feedback_ids: &mut [u64],
     marks: &mut [u8],
-    projected_sources: &mut [u64],
-    projected_sinks: &mut [u64],
-    projected_inverted: &mut [u8],
-    projected_minimums: &mut [u32],
-    projected_maximums: &mut [u32],
-    projected_starts: &mut [usize],
-    projected_lengths: &mut [usize],
-    path_ids: &mut [u64],
-    label_settled: &mut [u8],
-    label_lows: &mut [u32],
-    label_highs: &mut [u32],
-) -> SceneAnswer
-    ensures { AssessCall scene_limits (component_lists ids.now kinds.now delays.now locked.now xs.now ys.now zs.now) (connection_lists sources.now sinks.now transfers.now) (assess_lists reason_kinds.old reason_components.old reason_blocks.old reason_minimums.old reason_maximums.old feedback_ids.old marks.old projected_sources.old projected_sinks.old projected_inverted.old projected_minimums.old projected_maximums.old projected_starts.old projected_lengths.old path_ids.old label_settled.old label_lows.old label_highs.old) (assess_lists reason_kinds.new reason_components.new reason_blocks.new reason_minimums.new reason_maximums.new feedback_ids.new marks.new projected_sources.new projected_sinks.new projected_inverted.new projected_minimums.new projected_maximums.new projected_starts.new projected_lengths.new path_ids.new label_settled.new label_lows.new label_highs.new) result }
+    projected: &mut ProjectionLists<'_>,
+    labels: &mut LabelLists<'_>,
+) -> Result<Assessment, Refusal>
+    ensures same_reasons { SameReasons reasons.old reasons.new }
+    ensures same_projection { SameProjection projected.old projected.new }
+    ensures same_labels { SameLabels labels.old labels.new }
+    ensures assessed { AssessCall scene_limits (components_lent scene.now.components) (connections_lent scene.now.connections) (grouped reasons.old feedback_ids.old marks.old projected.old labels.old) (grouped reasons.new feedback_ids.new marks.new projected.new labels.new) result }
 {
-    let mut order = [0usize; MAX_COMPONENTS];
-    let mut starts = [0usize; MAX_CONNECTIONS];
-    let mut stops = [0usize; MAX_CONNECTIONS];
-    let reason_lengths = [
-        reason_kinds.len(),
-        reason_components.len(),
-        reason_blocks.len(),
-        reason_minimums.len(),
-        reason_maximums.len(),
-    ];
-    let projection_lengths = [
-        projected_sources.len(),
-        projected_sinks.len(),
-        projected_inverted.len(),
-        projected_minimums.len(),
-        projected_maximums.len(),
-        projected_starts.len(),
-        projected_lengths.len(),
-    ];
-    let label_lengths = [label_settled.len(), label_lows.len(), label_highs.len()];
-    let tested = test_scene(
-        ids,
-        kinds,
-        delays,
-        locked,
-        xs,
-        ys,
-        zs,
-        sources,
-        sinks,
-        transfers,
-        &reason_lengths,
-        feedback_ids.len(),
-        marks.len(),
-        &projection_lengths,
-        path_ids.len(),
-        &label_lengths,
-        &mut order,
-        &mut starts,
-        &mut stops,
-    );
-    let checked = tested.checked;
-    let edges = tested.edges;
-    match checked {
-        Checked::Refused { number, place } => SceneAnswer::Refused {
-            number: number,
-            place: place,
-        },
-        Checked::Accepted => {
-            let reasons = reason_scene(
-                ids,
-                kinds,
-                delays,
-                locked,
-                &starts,
-                &stops,
-                edges,
-                &order,
-                reason_kinds,
-                reason_components,
-                reason_blocks,
-                reason_minimums,
-                reason_maximums,
-                feedback_ids,
-                label_settled,
-                label_lows,
-                label_highs,
-            );
-            let projected = project_scene(
-                ids,
-                kinds,
-                delays,
-                &starts,
-                &stops,
-                edges,
-                &order,
-                marks,
-                projected_sources,
-                projected_sinks,
-                projected_inverted,
-                projected_minimums,
-                projected_maximums,
-                projected_starts,
-                projected_lengths,
-                path_ids,
-            );
-            assessed(ids.len(), reasons, projected)
-        }
-    }
+    let mut order = [0; MAX_COMPONENTS];
+    let mut starts = [0; MAX_CONNECTIONS];
+    let mut stops = [0; MAX_CONNECTIONS];
+    let mut positions = Positions {
+        order: &mut order,
+        starts: &mut starts,
+        stops: &mut stops,
+    };
+    let count = place_scene(
+        scene,
+        reasons,
+        feedback_ids,
+        marks,
+        projected,
+        labels,
+        &mut positions,
+    )?;
+    let placed = Edges {
+        sources: &starts[..count],
+        sinks: &stops[..count],
+    };
+    let order = &order[..scene.components.ids.len()];
+    Ok(assess_accepted(
+        scene,
+        &placed,
+        order,
+        reasons,
+        feedback_ids,
+        marks,
+        projected,
+        labels,
+    ))
+}
+
+// The same with its lists in one struct.
+pub fn assess_scene(
+    scene: &Scene<'_>,
+    lists: &mut AssessmentLists<'_>,
+) -> Result<Assessment, Refusal>
+    ensures same { SameAssessment lists.old lists.new }
+    ensures assessed { AssessCall scene_limits (components_lent scene.now.components) (connections_lent scene.now.connections) (assessment_lent lists.old) (assessment_lent lists.new) result }
+{
+    assess_lists(
+        scene,
+        &mut lists.reasons,
+        lists.feedback_ids,
+        lists.marks,
+        &mut lists.projected,
+        &mut lists.labels,
+    )
 }

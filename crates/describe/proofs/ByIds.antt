@@ -3,7 +3,8 @@ use mathlib.Core.List.{List, ◌++◌, map, map-map, map-append, Memᴰ}
 use mathlib.Core.Path.{◌≡◌, refl, sym, ap, ap₂, ◌∙◌}
 use Prim.Native.Nat.{ℕ, ◌<◌}
 use native.Mathlib.Omega.{arith}
-use lib.ListN.{length}
+use lib.ListN.{length, replicate}
+use Rattle.std.proofs.lemmas.Simd.{splat_is_map}
 use Rattle.rules.specs.Lists.{keep, indices, Distinct}
 use Rattle.rules.specs.Ordered.{key_at}
 use Rattle.rules.specs.Positions.{id_at, named, Positioned}
@@ -14,7 +15,7 @@ use Rattle.rules.specs.Scene.{Component, Connection, ComponentLists, ConnectionL
 use Rattle.rules.specs.Describe.{timed_edge, timed_edges, TemporalDevice, temporal_device, device_components, devices, Evidence, connection_evidence, device_evidence, evidence, evidence_kind, evidence_source, evidence_sink, evidence_component, evidence_block}
 use Rattle.rules.proofs.Lists.{keep-map, map_same}
 use Rattle.rules.proofs.Indices.{mem-at}
-use Rattle.rules.proofs.Columns.{ConnectionsAligned, connection-sources, connection-columns}
+use Rattle.rules.proofs.Columns.{ConnectionsAligned, connection-sources, connections-length, connection-columns}
 use Rattle.laws.proofs.PositionEdges.{edges_between-sources, edges_between-sinks, inside-sources}
 use Rattle.laws.proofs.ByPosition.{row-by-position, delay-by-position}
 use Rattle.describe.specs.Rows.{delay_at_position, behavior_at_position, device_positions}
@@ -97,24 +98,22 @@ module _ (l : ComponentLists) where
         map-append field (map connection_evidence (connections_of m)) (map device_evidence (device_components (components_of l)))
         ∙ ap₂ ◌++◌ (map-map field connection_evidence (connections_of m)) (map-map field device_evidence (device_components (components_of l)) ∙ by-device (λ c. field (device_evidence c)))
 
-    by-source-list : (g : ℕ → ℕ) → map (λ n. g n.source) (connections_of m) ≡ map g m.sources
-    by-source-list g = sym (map-map g (λ n. n.source) (connections_of m)) ∙ ap (map g) (connection-sources m)
+    no_entries : replicate {A = ℕ} (length m.sources) 0 ≡ map (λ n. 0) (connections_of m)
+    no_entries = splat_is_map (connections_of m) (length m.sources) 0 (connections-length m)
 
-    pub evidence_kinds : map (λ (x : ℕ). 0) m.sources ++ map (λ (i : ℕ). 1) (device_positions l.kinds (length l.ids)) ≡ map evidence_kind (evidence (components_of l) (connections_of m))
-    evidence_kinds = sym (by-evidence evidence_kind ∙ ap (λ r. r ++ map (λ (i : ℕ). 1) chosen) (by-source-list (λ x. 0)))
+    pub evidence_kinds : replicate (length m.sources) 0 ++ map (λ (i : ℕ). 1) (device_positions l.kinds (length l.ids)) ≡ map evidence_kind (evidence (components_of l) (connections_of m))
+    evidence_kinds = ap (λ r. r ++ map (λ (i : ℕ). 1) chosen) no_entries ∙ sym (by-evidence evidence_kind)
 
-    pub evidence_sources : map (λ (x : ℕ). x) m.sources ++ map (λ (i : ℕ). 0) (device_positions l.kinds (length l.ids)) ≡ map evidence_source (evidence (components_of l) (connections_of m))
-    evidence_sources = sym (by-evidence evidence_source ∙ ap (λ r. r ++ map (λ (i : ℕ). 0) chosen) (by-source-list (λ x. x)))
+    pub evidence_sources : m.sources ++ map (λ (i : ℕ). 0) (device_positions l.kinds (length l.ids)) ≡ map evidence_source (evidence (components_of l) (connections_of m))
+    evidence_sources = ap (λ r. r ++ map (λ (i : ℕ). 0) chosen) (sym (connection-sources m)) ∙ sym (by-evidence evidence_source)
 
-    pub evidence_sinks : ConnectionsAligned m → map (λ (x : ℕ). x) m.sinks ++ map (λ (i : ℕ). 0) (device_positions l.kinds (length l.ids)) ≡ map evidence_sink (evidence (components_of l) (connections_of m))
-    evidence_sinks a =
-        sym (by-evidence evidence_sink
-        ∙ ap (λ r. r ++ map (λ (i : ℕ). 0) chosen) (sym (map-map (λ x. x) (λ n. n.sink) (connections_of m)) ∙ ap (map (λ x. x)) (connection-columns m a).sinks_column))
+    pub evidence_sinks : ConnectionsAligned m → m.sinks ++ map (λ (i : ℕ). 0) (device_positions l.kinds (length l.ids)) ≡ map evidence_sink (evidence (components_of l) (connections_of m))
+    evidence_sinks a = ap (λ r. r ++ map (λ (i : ℕ). 0) chosen) (sym (connection-columns m a).sinks_column) ∙ sym (by-evidence evidence_sink)
 
-    pub evidence_components : map (λ (x : ℕ). 0) m.sources ++ map (key_at l.ids) (device_positions l.kinds (length l.ids)) ≡ map evidence_component (evidence (components_of l) (connections_of m))
+    pub evidence_components : replicate (length m.sources) 0 ++ map (key_at l.ids) (device_positions l.kinds (length l.ids)) ≡ map evidence_component (evidence (components_of l) (connections_of m))
     unfolding component_at
-    evidence_components = sym (by-evidence evidence_component ∙ ap (λ r. r ++ map (key_at l.ids) chosen) (by-source-list (λ x. 0)))
+    evidence_components = ap (λ r. r ++ map (key_at l.ids) chosen) no_entries ∙ sym (by-evidence evidence_component)
 
-    pub evidence_blocks : map (λ (x : ℕ). 0) m.sources ++ map (key_at l.kinds) (device_positions l.kinds (length l.ids)) ≡ map evidence_block (evidence (components_of l) (connections_of m))
+    pub evidence_blocks : replicate (length m.sources) 0 ++ map (key_at l.kinds) (device_positions l.kinds (length l.ids)) ≡ map evidence_block (evidence (components_of l) (connections_of m))
     unfolding component_at
-    evidence_blocks = sym (by-evidence evidence_block ∙ ap (λ r. r ++ map (key_at l.kinds) chosen) (by-source-list (λ x. 0)))
+    evidence_blocks = ap (λ r. r ++ map (key_at l.kinds) chosen) no_entries ∙ sym (by-evidence evidence_block)

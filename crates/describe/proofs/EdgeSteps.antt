@@ -1,24 +1,40 @@
--- What the edges take from their sources, by the columns filled for the components. Assumes nothing.
-use mathlib.Core.List.{List, map}
-use mathlib.Core.Path.{◌≡◌, ap, ◌∙◌}
-use Prim.Native.Nat.{ℕ, ◌<◌}
-use native.Mathlib.Omega.{arith}
+-- The edges are gone through in order. Assumes nothing.
+use Rattle.std.proofs.Common.{◌≡◌, ℕ, ◌<◌, List, map, length, get_or, ap, ◌∙◌, arith}
 use Rattle.rules.specs.Lists.{indices, written}
 use Rattle.rules.specs.Ordered.{key_at}
-use Rattle.rules.proofs.Indices.{mem-at, made-length, made_at}
-use Rattle.rules.proofs.Lists.{map_same}
-use Rattle.rules.proofs.Made.{Made}
+use Rattle.rules.specs.declared.kinds.EdgeTiming.{EdgeTiming}
+use Rattle.rules.specs.declared.lent.Components.{Components}
+use Rattle.rules.specs.declared.lent.TimedEdgeLists.{TimedEdgeLists}
+use Rattle.rules.proofs.Indices.{made-length, made_at}
+use Rattle.rules.proofs.Made.{Made, made_none, made_all}
 use Rattle.rules.proofs.Written.{written_at}
-use Rattle.graph.specs.Adjacency.{Below}
+use Rattle.graph.specs.declared.edges.Edges.{Edges}
+use Rattle.describe.specs.Rows.{timing_at_position, delay_at_position, behavior_at_position, EdgesListed}
 
-module _ (f : ℕ → ℕ) (old now : List ℕ) where
-  -- all components are gone through
-  pub column-filled : (n i : ℕ) → i ≡ n → Made f 0 old now i → now ≡ written old (map f (indices n))
-  column-filled n i e m = m.content ∙ ap (λ k. written old (map f (indices k))) e
+-- what was filled in for a component
+pub timing_read : (kinds delays : List ℕ) (old now : List EdgeTiming) (n i : ℕ) (d : EdgeTiming) → now ≡ written old (map (timing_at_position kinds delays) (indices n)) → i < n
+    → get_or now i d ≡ timing_at_position kinds delays i
+timing_read kinds delays old now n i d e h =
+    ap (λ l. get_or l i d) e ∙ written_at old (map (timing_at_position kinds delays) (indices n)) i d (omega (arith, made-length (timing_at_position kinds delays) n))
+    ∙ made_at (timing_at_position kinds delays) n i d h
 
-  -- what the column says at positions below n
-  pub column-read : (n m : ℕ) (positions : List ℕ) → now ≡ written old (map f (indices m)) → m ≡ n → Below n positions → map (key_at now) positions ≡ map f positions
-  column-read n m positions e q below = map_same (key_at now) f positions (λ x k. let r = mem-at 0 k in at x (omega (arith, below r.0 r.1, r.2)))
-    where
-      at : (x : ℕ) → x < m → key_at now x ≡ f x
-      at x h = ap (λ (l : List ℕ). key_at l x) e ∙ written_at old (map f (indices m)) x 0 (omega (arith, made-length f m)) ∙ made_at f m x 0 h
+-- list 0 before and after the first k edges are gone through
+pub record EdgesBelow (c : Components) (edges : Edges) (old now : TimedEdgeLists) (k : ℕ) : Type 0 where
+  pub sources : Made (λ e. key_at c.ids.now (get_or edges.sources.now e 0)) 0 old.sources.now now.sources.now k
+  pub sinks : Made (λ e. key_at c.ids.now (get_or edges.sinks.now e 0)) 0 old.sinks.now now.sinks.now k
+  pub minimums : Made (λ e. delay_at_position c.kinds.now c.delays.now (get_or edges.sources.now e 0)) 0 old.minimums.now now.minimums.now k
+  pub maximums : Made (λ e. delay_at_position c.kinds.now c.delays.now (get_or edges.sources.now e 0)) 0 old.maximums.now now.maximums.now k
+  pub behaviors : Made (λ e. behavior_at_position c.kinds.now (get_or edges.sources.now e 0)) 0 old.behaviors.now now.behaviors.now k
+
+module _ (c : Components) (edges : Edges) (old : TimedEdgeLists) where
+  pub edges_none : EdgesBelow c edges old old 0
+  edges_none = record { sources = made_none _ 0 _; sinks = made_none _ 0 _; minimums = made_none _ 0 _; maximums = made_none _ 0 _; behaviors = made_none _ 0 _ }
+
+  pub edges_all : (now : TimedEdgeLists) (k : ℕ) → k ≡ length edges.sources.now → length edges.sinks.now ≡ length edges.sources.now → EdgesBelow c edges old now k → EdgesListed c edges old now
+  edges_all now k e pairs m = record {
+    sources = made_all (key_at c.ids.now) edges.sources.now 0 0 _ _ k e m.sources;
+    sinks = made_all (key_at c.ids.now) edges.sinks.now 0 0 _ _ k (omega arith) m.sinks;
+    minimums = made_all (delay_at_position c.kinds.now c.delays.now) edges.sources.now 0 0 _ _ k e m.minimums;
+    maximums = made_all (delay_at_position c.kinds.now c.delays.now) edges.sources.now 0 0 _ _ k e m.maximums;
+    behaviors = made_all (behavior_at_position c.kinds.now) edges.sources.now 0 0 _ _ k e m.behaviors;
+  }

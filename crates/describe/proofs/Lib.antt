@@ -1,7 +1,5 @@
--- The passes, step by step:
 pub mod EdgeSteps
-pub mod ChosenSteps
+pub mod DeviceSteps
 pub mod EvidenceSteps
--- positions and ids, and the call:
 pub mod ByIds
 pub mod SceneDescribe

@@ -1,3 +1,2 @@
 -- What the passes of the crate promise each other; what the call promises is in the crate rules
 pub mod Rows
-pub mod Components

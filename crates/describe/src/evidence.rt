@@ -1,104 +1,74 @@
 // List 2: evidence from connections, then from devices.
-ghost use Rattle.std.specs.Prelude.{◌≡◌, map, ℕ};
-ghost use Rattle.rules.specs.Lists.{written, written_from};
-ghost use Rattle.rules.specs.Ordered.{key_at};
-ghost use Rattle.describe.specs.Rows.{EvidenceRoom, DeviceEvidenceRoom, EvidenceReady, EvidenceListed};
+ghost use Rattle.std.specs.Prelude.{◌≡◌, ◌+◌, ◌≤◌, length};
+ghost use Rattle.rules.specs.Lent.{SameEvidence};
+ghost use Rattle.describe.specs.Rows.{evidence_kind_code, devices_of, EvidenceFits, ConnectionsListed, DeviceEvidenceListed, EvidenceListed};
+
+use crate::fronts::{copy_front, fill_front};
+use rules::lent::{Components, Connections, EvidenceLists, Scene};
+use tables::kinds::is_device;
+
+// What an entry of the list is evidence of.
+#[derive(Clone, Copy, PartialEq, Eq, Debug)]
+enum EvidenceKind {
+    VerifiedPhysicalConnection,
+    DeviceSemantics,
+}
+
+impl From<EvidenceKind> for u8 {
+    ghost from_gives = { λ kind code. code ≡ evidence_kind_code kind };
+
+    fn from(kind: EvidenceKind) -> u8 {
+        kind as u8
+    }
+}
 
 // Writes an entry for each connection: its ends, as they are given.
-fn list_connection_evidence(
-    sources: &[u64],
-    sinks: &[u64],
-    evidence_kinds: &mut [u8],
-    evidence_sources: &mut [u64],
-    evidence_sinks: &mut [u64],
-    evidence_components: &mut [u64],
-    evidence_blocks: &mut [u8],
-)
-    requires { EvidenceRoom sources.now sinks.now evidence_kinds.old evidence_sources.old evidence_sinks.old evidence_components.old evidence_blocks.old }
-    ensures kinds { evidence_kinds.new ≡ written evidence_kinds.old (map (λ (x : ℕ). 0) sources.now) }
-    ensures sources { evidence_sources.new ≡ written evidence_sources.old (map (λ (x : ℕ). x) sources.now) }
-    ensures sinks { evidence_sinks.new ≡ written evidence_sinks.old (map (λ (x : ℕ). x) sinks.now) }
-    ensures components { evidence_components.new ≡ written evidence_components.old (map (λ (x : ℕ). 0) sources.now) }
-    ensures blocks { evidence_blocks.new ≡ written evidence_blocks.old (map (λ (x : ℕ). 0) sources.now) }
+fn list_connection_evidence(connections: &Connections<'_>, evidence: &mut EvidenceLists<'_>)
+    requires pairs { length connections.now.sinks.now ≡ length connections.now.sources.now }
+    requires fits { EvidenceFits (length connections.now.sources.now) evidence.old }
+    ensures same { SameEvidence evidence.old evidence.new }
+    ensures listed { ConnectionsListed connections.now evidence.old evidence.new }
 {
-    let mut j = 0;
-    while j < sources.len() {
-        evidence_kinds[j] = 0;
-        evidence_sources[j] = sources[j];
-        evidence_sinks[j] = sinks[j];
-        evidence_components[j] = 0;
-        evidence_blocks[j] = 0;
-        j += 1;
-    }
-}
-
-// Writes an entry for each chosen component, after the first m.
-fn list_device_evidence(
-    ids: &[u64],
-    kinds: &[u8],
-    chosen: &[usize],
-    m: usize,
-    evidence_kinds: &mut [u8],
-    evidence_sources: &mut [u64],
-    evidence_sinks: &mut [u64],
-    evidence_components: &mut [u64],
-    evidence_blocks: &mut [u8],
-)
-    requires { DeviceEvidenceRoom ids.now kinds.now chosen.now m evidence_kinds.old evidence_sources.old evidence_sinks.old evidence_components.old evidence_blocks.old }
-    ensures kinds { evidence_kinds.new ≡ written_from m evidence_kinds.old (map (λ (i : ℕ). 1) chosen.now) }
-    ensures sources { evidence_sources.new ≡ written_from m evidence_sources.old (map (λ (i : ℕ). 0) chosen.now) }
-    ensures sinks { evidence_sinks.new ≡ written_from m evidence_sinks.old (map (λ (i : ℕ). 0) chosen.now) }
-    ensures components { evidence_components.new ≡ written_from m evidence_components.old (map (key_at ids.now) chosen.now) }
-    ensures blocks { evidence_blocks.new ≡ written_from m evidence_blocks.old (map (key_at kinds.now) chosen.now) }
-{
-    let mut k = 0;
-    while k < chosen.len() {
-        let i = chosen[k];
-        let place = m + k;
-        evidence_kinds[place] = 1;
-        evidence_sources[place] = 0;
-        evidence_sinks[place] = 0;
-        evidence_components[place] = ids[i];
-        evidence_blocks[place] = kinds[i];
-        k += 1;
-    }
-}
-
-// Writes list 2: connections first, then devices.
-pub(crate) fn list_evidence(
-    ids: &[u64],
-    kinds: &[u8],
-    chosen: &[usize],
-    sources: &[u64],
-    sinks: &[u64],
-    evidence_kinds: &mut [u8],
-    evidence_sources: &mut [u64],
-    evidence_sinks: &mut [u64],
-    evidence_components: &mut [u64],
-    evidence_blocks: &mut [u8],
-)
-    requires { EvidenceReady ids.now kinds.now chosen.now sources.now sinks.now evidence_kinds.old evidence_sources.old evidence_sinks.old evidence_components.old evidence_blocks.old }
-    ensures { EvidenceListed ids.now kinds.now chosen.now sources.now sinks.now evidence_kinds.old evidence_sources.old evidence_sinks.old evidence_components.old evidence_blocks.old evidence_kinds.new evidence_sources.new evidence_sinks.new evidence_components.new evidence_blocks.new }
-{
-    let m = sources.len();
-    list_connection_evidence(
-        sources,
-        sinks,
-        evidence_kinds,
-        evidence_sources,
-        evidence_sinks,
-        evidence_components,
-        evidence_blocks,
-    );
-    list_device_evidence(
-        ids,
-        kinds,
-        chosen,
+    let m = connections.sources.len();
+    fill_front(
         m,
-        evidence_kinds,
-        evidence_sources,
-        evidence_sinks,
-        evidence_components,
-        evidence_blocks,
+        u8::from(EvidenceKind::VerifiedPhysicalConnection),
+        evidence.kinds,
     );
+    copy_front(connections.sources, evidence.sources);
+    copy_front(connections.sinks, evidence.sinks);
+    fill_front(m, 0, evidence.components);
+    fill_front(m, 0, evidence.blocks);
+}
+
+// Writes an entry for each device, from a place on.
+fn list_device_evidence(components: &Components<'_>, first: usize, evidence: &mut EvidenceLists<'_>)
+    requires kinds { length components.now.kinds.now ≡ length components.now.ids.now }
+    requires fits { EvidenceFits (first + length components.now.ids.now) evidence.old }
+    ensures same { SameEvidence evidence.old evidence.new }
+    ensures listed { DeviceEvidenceListed components.now first evidence.old evidence.new }
+{
+    let mut place = first;
+    for (i, &kind) in components.kinds.iter().enumerate() {
+        if is_device(kind) {
+            evidence.kinds[place] = u8::from(EvidenceKind::DeviceSemantics);
+            evidence.sources[place] = 0;
+            evidence.sinks[place] = 0;
+            evidence.components[place] = components.ids[i];
+            evidence.blocks[place] = kind;
+            place += 1;
+        }
+    }
+}
+
+// Writes list 2: connections first, then devices, in component order.
+pub(crate) fn list_evidence(scene: &Scene<'_>, evidence: &mut EvidenceLists<'_>)
+    requires kinds { length scene.now.components.kinds.now ≡ length scene.now.components.ids.now }
+    requires pairs { length scene.now.connections.sinks.now ≡ length scene.now.connections.sources.now }
+    requires fits { EvidenceFits (length scene.now.connections.sources.now + length scene.now.components.ids.now) evidence.old }
+    ensures same { SameEvidence evidence.old evidence.new }
+    ensures listed { EvidenceListed scene.now evidence.old evidence.new }
+{
+    list_connection_evidence(&scene.connections, evidence);
+    list_device_evidence(&scene.components, scene.connections.sources.len(), evidence);
 }

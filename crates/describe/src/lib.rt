@@ -1,8 +1,8 @@
 // The call that writes lists 0, 1 and 2: timed edges, devices and evidence.
 #![tactic(auto)]
 
-pub mod describe; // describe.rt: the call
 mod edges; // edges.rt: list 0, from the edges over positions
-mod devices; // devices.rt: which components are devices, and list 1
+mod devices; // devices.rt: list 1
 mod evidence; // evidence.rt: list 2
-mod components; // components.rt: lists 1 and 2 together
+mod fronts; // fronts.rt: the fronts of lists, filled or copied to
+pub mod describe; // describe.rt: the call

@@ -2,4 +2,3 @@
 #![tactic(auto)]
 
 pub mod records; // records.rt: the trace call on records
-mod counted; // counted.rt: the trace call on the first entries of long lists

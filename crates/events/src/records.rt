@@ -1,44 +1,62 @@
 // Events as a lent list of records.
-ghost use Rattle.rules.specs.Verdicts.{contract_lists, finding_lists};
-ghost use Rattle.rules.specs.Traces.{trace_limits, trace_lists, TraceCall};
+ghost use Rattle.std.specs.Prelude.{◌≡◌, length, map, cond};
+ghost use Rattle.rules.specs.Refusals.{lengths_differ};
+ghost use Rattle.rules.specs.Lent.{contracts_lent, findings_lent, SameFindings};
+ghost use Rattle.rules.specs.Traces.{trace_limits, trace_lists, contract_lengths, TraceCall};
+ghost use Rattle.rules.specs.declared.answers.RefusalKind.TheVariants.{LengthsDiffer, TooManyEvents};
 ghost use Rattle.events.specs.Records.{events_of_records};
-ghost use Rattle.events.specs.Counted.{Counted};
 
-use crate::counted::{CountedEvents, assess_counted, fitting};
+use rules::answers::{Refusal, RefusalKind};
+use rules::lent::{Contracts, Events, Findings, Trace};
 use rules::limits::MAX_EVENTS;
 use rules::transient::TransientAssessment;
+use transient::aligned::contracts_differ;
+use transient::trace::assess_transients;
 
 // tick, component, and powered: 0 or 1. Another value is refused, as in the number list.
 #[repr(C)]
-#[derive(Clone, Copy)]
+#[derive(Clone, Copy, PartialEq, Eq, Debug)]
 pub struct BehaviorEvent {
     pub tick: u64,
     pub component: u64,
     pub powered: u8,
 }
 
-// The numbers of each record, list by list.
-pub(crate) fn read_events(events: &[BehaviorEvent]) -> CountedEvents
-    ensures { Counted result (events_of_records events.now) }
+// The refusal of more events than a trace may have; of contract lists that differ in length before it.
+fn too_many(count: usize, contracts: &Contracts<'_>) -> Refusal
+    ensures { result ≡ cond (lengths_differ (contract_lengths (contracts_lent contracts.now))) (record { kind = LengthsDiffer; place = 3 }) (record { kind = TooManyEvents; place = count }) }
 {
-    let mut ticks = [0u64; MAX_EVENTS];
-    let mut components = [0u64; MAX_EVENTS];
-    let mut powered = [0u8; MAX_EVENTS];
-    let count = events.len();
-    let kept = fitting(count);
-    let mut i = 0;
-    while i < kept {
-        let e = events[i];
-        ticks[i] = e.tick;
-        components[i] = e.component;
-        powered[i] = e.powered;
-        i += 1;
+    if contracts_differ(contracts) {
+        Refusal {
+            kind: RefusalKind::LengthsDiffer,
+            place: 3,
+        }
+    } else {
+        Refusal {
+            kind: RefusalKind::TooManyEvents,
+            place: count as u64,
+        }
     }
-    CountedEvents {
-        count,
-        ticks,
-        components,
-        powered,
+}
+
+// Writes the numbers of each record, list by list.
+fn read_events(
+    events: &[BehaviorEvent],
+    ticks: &mut [u64],
+    components: &mut [u64],
+    powered: &mut [u8],
+)
+    requires ticks { length ticks.old ≡ length events.now }
+    requires components { length components.old ≡ length events.now }
+    requires powered { length powered.old ≡ length events.now }
+    ensures ticks { ticks.new ≡ map (λ e. e.tick) events.now }
+    ensures components { components.new ≡ map (λ e. e.component) events.now }
+    ensures powered { powered.new ≡ map (λ e. e.powered) events.now }
+{
+    for (i, event) in events.iter().enumerate() {
+        ticks[i] = event.tick;
+        components[i] = event.component;
+        powered[i] = event.powered;
     }
 }
 
@@ -46,49 +64,33 @@ pub(crate) fn read_events(events: &[BehaviorEvent]) -> CountedEvents
 pub fn assess_events(
     unit: u8,
     events: &[BehaviorEvent],
-    contract_components: &[u64],
-    contract_intents: &[u8],
-    contract_powered: &[u8],
-    contract_polarities: &[u8],
-    contract_units: &[u8],
-    contract_smallest: &[u64],
-    contract_largest: &[u64],
-    finding_components: &mut [u64],
-    finding_polarities: &mut [u8],
-    finding_units: &mut [u8],
-    finding_start_ticks: &mut [u64],
-    finding_end_ticks: &mut [u64],
-    finding_widths: &mut [u64],
-    finding_steady: &mut [u8],
-    finding_baselines: &mut [usize],
-    finding_starts: &mut [usize],
-    finding_ends: &mut [usize],
-    finding_verdicts: &mut [u8],
-    finding_rationales: &mut [u8],
-) -> TransientAssessment
-    ensures { TraceCall trace_limits (trace_lists unit (events_of_records events.now) (contract_lists contract_components.now contract_intents.now contract_powered.now contract_polarities.now contract_units.now contract_smallest.now contract_largest.now)) (finding_lists finding_components.old finding_polarities.old finding_units.old finding_start_ticks.old finding_end_ticks.old finding_widths.old finding_steady.old finding_baselines.old finding_starts.old finding_ends.old finding_verdicts.old finding_rationales.old) (finding_lists finding_components.new finding_polarities.new finding_units.new finding_start_ticks.new finding_end_ticks.new finding_widths.new finding_steady.new finding_baselines.new finding_starts.new finding_ends.new finding_verdicts.new finding_rationales.new) result }
+    contracts: &Contracts<'_>,
+    findings: &mut Findings<'_>,
+) -> Result<TransientAssessment, Refusal>
+    ensures same { SameFindings findings.old findings.new }
+    ensures assessed { TraceCall trace_limits (trace_lists unit (events_of_records events.now) (contracts_lent contracts.now)) (findings_lent findings.old) (findings_lent findings.new) result }
 {
-    assess_counted(
+    let count = events.len();
+    if MAX_EVENTS < count {
+        return Err(too_many(count, contracts));
+    }
+    let mut ticks = [0u64; MAX_EVENTS];
+    let mut components = [0u64; MAX_EVENTS];
+    let mut powered = [0u8; MAX_EVENTS];
+    read_events(
+        events,
+        &mut ticks[..count],
+        &mut components[..count],
+        &mut powered[..count],
+    );
+    let trace = Trace {
         unit,
-        read_events(events),
-        contract_components,
-        contract_intents,
-        contract_powered,
-        contract_polarities,
-        contract_units,
-        contract_smallest,
-        contract_largest,
-        finding_components,
-        finding_polarities,
-        finding_units,
-        finding_start_ticks,
-        finding_end_ticks,
-        finding_widths,
-        finding_steady,
-        finding_baselines,
-        finding_starts,
-        finding_ends,
-        finding_verdicts,
-        finding_rationales,
-    )
+        events: Events {
+            ticks: &ticks[..count],
+            components: &components[..count],
+            powered: &powered[..count],
+        },
+        contracts: *contracts,
+    };
+    assess_transients(&trace, findings)
 }

@@ -1,14 +1,17 @@
 -- The tests of the lists' shapes, one by one. Assumes nothing.
-use mathlib.Core.Bool.{true, false}
-use mathlib.Core.List.{List}
+use mathlib.Core.Bool.{Bool, true, false, not, ◌&&◌, ◌||◌}
+use mathlib.Core.List.{List, [], ◌∷◌}
 use mathlib.Core.Path.{◌≡◌, refl}
-use Prim.Native.Nat.{ℕ, ◌<◌, ◌≤◌}
+use Prim.Native.Nat.{ℕ, ◌≤◌}
 use native.Mathlib.Omega.{arith}
-use borrow.Author.Tests.{eq-eqb, ne_eqb, eqb-true, leb-true, leb-false, le-leb, lt-leb}
-use lib.Dec.{leb, eqb}
+use borrow.Author.Tests.{eq-eqb, ne_eqb, eqb-true, leb-true, leb-false, lt-leb, le-ltb, lt-ltb}
+use lib.Dec.{leb, ltb, eqb}
 use lib.ListN.{length, get_or}
+use lib.Seq.{length-take-le}
+use Rattle.std.specs.List.{list_all}
+use Rattle.rules.specs.Lists.{any}
 use Rattle.rules.proofs.Lists.{both_true}
-use Rattle.rules.proofs.Indices.{none-bad, one-bad, each-good}
+use Rattle.rules.proofs.Indices.{none-bad, each-good}
 use Rattle.graph.specs.Fits.{ends_below, graph_fits, index_fits, EdgesIndexed}
 use Rattle.graph.specs.Adjacency.{Below, Indexed}
 use Rattle.graph.specs.Groups.{Between}
@@ -18,14 +21,19 @@ pub ends-all : (n : ℕ) (ends : List ℕ) → Below n ends → true ≡ ends_be
 unfolding ends_below
 ends-all n ends h = none-bad 0 (leb n) ends (λ k i. lt-leb n (get_or ends k 0) (h k i))
 
--- one is not
-pub ends-one : (n : ℕ) (ends : List ℕ) (e : ℕ) → e < length ends → n ≤ get_or ends e 0 → false ≡ ends_below n ends
-unfolding ends_below
-ends-one n ends e h l = one-bad 0 (leb n) ends e h (le-leb n (get_or ends e 0) l)
-
 pub ends-below : (n : ℕ) (ends : List ℕ) → ends_below n ends ≡ true → Below n ends
 unfolding ends_below
 ends-below n ends e k h = leb-false n (get_or ends k 0) (each-good 0 (leb n) ends e k h)
+
+-- they are tested one by one
+pub ends-listed : (n : ℕ) (ends : List ℕ) → list_all (λ e. ltb e n) ends ≡ ends_below n ends
+unfolding ends_below any
+ends-listed n [] = refl
+ends-listed n (e ∷ ends) = go (leb n e) refl (ends-listed n ends)
+  where
+    go : (b : Bool) → leb n e ≡ b → list_all (λ e. ltb e n) ends ≡ not (any (leb n) ends) → (ltb e n && list_all (λ e. ltb e n) ends) ≡ not (b || any (leb n) ends)
+    go true t h = rw (le-ltb e n (leb-true n e t)) refl
+    go false t h = rw (lt-ltb e n (leb-false n e t)) h
 
 -- what the tests say when all pass
 pub record Fitted (sources sinks : List ℕ) (n head next order group : ℕ) : Type 0 where
@@ -51,6 +59,9 @@ fitted sources sinks n head next order group e =
       places = leb-true _ _ c.1;
       groups = leb-true _ _ d.1;
     }
+
+-- the fronts of lists that fit
+pub ruleset fitting = (fitted, length-take-le)
 
 -- edges are linked only where the lists fit
 module _ (ends head next : List ℕ) where

@@ -1,6 +1,8 @@
 -- Marks and chains:
 pub mod Filled
 pub mod Chains
+-- how often each node is an end:
+pub mod EndCounting
 -- what depth-first visits do, step by step:
 pub mod Visits
 pub mod OrderSteps

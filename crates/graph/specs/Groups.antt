@@ -3,6 +3,7 @@ use Rattle.std.specs.Prelude.{Bool, cond, not, ◌&&◌, List, map, ◌≡◌, �
 use Rattle.rules.specs.Lists.{any, indices}
 use Rattle.rules.specs.Graph.{Edge, strongly_connected}
 use Rattle.graph.specs.Adjacency.{Below}
+use Rattle.graph.specs.declared.edges.GroupRoom.{GroupRoom}
 
 -- each edge has a source and a sink among n nodes
 pub record Between (sources sinks : List ℕ) (n : ℕ) : Type 0 where
@@ -17,6 +18,13 @@ pub record Lent (sources sinks marks head next order group : List ℕ) : Type 0 
   pub links : length next ≡ length sources
   pub places : length marks ≤ length order
   pub groups : length group ≡ length marks
+
+-- the lists of the room are the same lists
+pub record SameRoom (old new : GroupRoom) : Type 0 where
+  pub head : new.head.ghost_name ≡ old.head.ghost_name
+  pub next : new.next.ghost_name ≡ old.next.ghost_name
+  pub order : new.order.ghost_name ≡ old.order.ghost_name
+  pub group : new.group.ghost_name ≡ old.group.ghost_name
 
 -- each of n nodes has a group, and the node that names it is in it
 pub record Rooted (n : ℕ) (group : List ℕ) : Type 0 where

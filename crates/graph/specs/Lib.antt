@@ -2,5 +2,6 @@
 pub mod Fits
 -- what the passes below it promise each other:
 pub mod Adjacency
+pub mod EndCounts
 pub mod Visits
 pub mod Groups

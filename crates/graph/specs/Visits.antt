@@ -2,6 +2,7 @@
 use Rattle.std.specs.Prelude.{List, [], ◌∷◌, ◌++◌, ◌≡◌, ℕ, ◌+◌, ◌<◌, ◌≤◌, eqb, length, get_or, set}
 use Rattle.rules.specs.Lists.{count, written_from}
 use Rattle.graph.specs.Adjacency.{Below, Rises, neighbours}
+use Rattle.graph.specs.declared.edges.Links.{Links}
 
 -- how many nodes have no mark
 unfoldable pub unseen : List ℕ → ℕ
@@ -47,3 +48,16 @@ pub record Collected (head next sinks us marks group : List ℕ) (root : ℕ) (m
   pub out : List ℕ
   pub dfs : Dfs (neighbours head next sinks) us marks marks' out
   pub painted : group' ≡ paint root out group
+
+-- the same of links that are lent
+abbrev pub Visitable : Links → (marks order : List ℕ) → ℕ → Type 0
+Visitable l = Ready l.head.now l.next.now l.ends.now
+
+abbrev pub VisitedAlong : Links → (us marks order : List ℕ) (count : ℕ) (marks' order' : List ℕ) → ℕ → Type 0
+VisitedAlong l = Visited l.head.now l.next.now l.ends.now
+
+abbrev pub Collectable : Links → (marks group : List ℕ) → Type 0
+Collectable l = Open l.head.now l.next.now l.ends.now
+
+abbrev pub CollectedAlong : Links → (us marks group : List ℕ) (root : ℕ) (marks' group' : List ℕ) → Type 0
+CollectedAlong l = Collected l.head.now l.next.now l.ends.now

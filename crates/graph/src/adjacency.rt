@@ -4,37 +4,24 @@ ghost use Rattle.std.specs.Prelude.{◌<◌, ◌≡◌, length, replicate};
 ghost use Rattle.graph.specs.Adjacency.{Below, Indexed};
 ghost use Rattle.graph.specs.Fits.{EdgesIndexed, ends_below};
 
-use crate::set_all::set_all;
-
 // Links the edges by the ends in `ends`. There is a node for each entry of head, and next must have an entry for each
 // edge and no more. If it does not, or an end is no node, the answer is false and both lists keep their contents. By
 // which number past the last edge a chain ends is open.
 pub fn index_edges(ends: &[usize], head: &mut [usize], next: &mut [usize]) -> bool
     ensures { EdgesIndexed ends.now head.old next.old head.new next.new result }
 {
-    if next.len() != ends.len() {
+    if next.len() != ends.len() || !ends_below(ends, head.len()) {
         return false;
     }
-    if ends_below(ends, head.len()) {
-        index_within(ends, head, next);
-        true
-    } else {
-        false
-    }
+    index_within(ends, head, next);
+    true
 }
 
 // Whether each end is one of the nodes below n.
 pub fn ends_below(ends: &[usize], n: usize) -> bool
     ensures { result ≡ ends_below n ends.now }
 {
-    let mut e = 0;
-    while e < ends.len() {
-        if n <= ends[e] {
-            return false;
-        }
-        e += 1;
-    }
-    true
+    ends.iter().all(|&end| end < n)
 }
 
 // Links the edges by the ends in sources.
@@ -43,7 +30,7 @@ pub(crate) fn index_within(sources: &[usize], head: &mut [usize], next: &mut [us
     ensures { Indexed sources.now head.new next.new }
 {
     // no edge leaves any node yet
-    set_all(sources.len(), head);
+    head.fill(sources.len());
     link_edges(sources, head, next);
 }
 
@@ -52,9 +39,7 @@ fn link_edges(sources: &[usize], head: &mut [usize], next: &mut [usize])
     requires { (length next.old ≡ length sources.now) × Below (length head.old) sources.now × (head.old ≡ replicate (length head.old) (length sources.now)) }
     ensures { Indexed sources.now head.new next.new }
 {
-    let mut e = sources.len();
-    while 0 < e {
-        e -= 1;
+    for e in (0..sources.len()).rev() {
         let u = sources[e];
         next[e] = head[u];
         head[u] = e;

@@ -11,8 +11,7 @@ use Rattle.rules.specs.Paths.{delay_sum, total, PathTo, Smallest, Largest}
 use Rattle.rules.specs.Labels.{unsettled, between, label, labels}
 use Rattle.rules.specs.Reasons.{unequal_reconvergent_delay, reasons, UnequalDelay}
 use Rattle.rules.specs.Projection.{first_edges, chain_from, before_last}
-use Rattle.rules.specs.Refusals.{Output, scene_limits, check_scene}
-use Rattle.rules.specs.declared.answers.Checked.TheVariants.{Accepted}
+use Rattle.rules.specs.Refusals.{accepted, Output, scene_limits, check_scene}
 use Rattle.rules.proofs.Indices.{map_at}
 use Rattle.rules.proofs.LabelLaws.{label→, →label}
 use Rattle.laws.proofs.Room.{accepted-path-plain, accepted-projected-plain}
@@ -27,7 +26,7 @@ label-entry cs es k h = map_at (label es (delay_at cs) (delay_at cs)) (map id_of
 room : (scene_limits.components - 1) * 255 ≤ cap
 room = omega arith
 
-module _ (l : ComponentLists) (m : ConnectionLists) (outputs : List Output) (accepted : check_scene scene_limits l m outputs ≡ Accepted) where
+module _ (l : ComponentLists) (m : ConnectionLists) (outputs : List Output) (accepts : check_scene scene_limits l m outputs ≡ accepted) where
   abbrev cs : List Component
   cs = components_of l
 
@@ -40,10 +39,10 @@ module _ (l : ComponentLists) (m : ConnectionLists) (outputs : List Output) (acc
 
   -- no path sum and no projected delay meets the cap
   pub base-path-plain : (v : ℕ) (p : List ℕ) → PathTo es v p → delay_sum (delay_at cs) p ≡ plain_sum p
-  base-path-plain v p P = accepted-path-plain scene_limits l m outputs accepted room P
+  base-path-plain v p P = accepted-path-plain scene_limits l m outputs accepts room P
 
   pub base-projected-plain : (e : Edge) → Memᴰ e (first_edges cs es) → delay_sum (delay_at cs) (before_last (chain_from cs es e)) ≡ plain_sum (before_last (chain_from cs es e))
-  base-projected-plain e n = accepted-projected-plain scene_limits l m outputs accepted (omega arith) e n
+  base-projected-plain e n = accepted-projected-plain scene_limits l m outputs accepts (omega arith) e n
 
   -- a label shows the smallest and the largest plain sum of a settled component
   pub base-label→ : (v low high : ℕ) → label es (delay_at cs) (delay_at cs) v ≡ between low high → Settled es v × Smallest es plain_sum v low × Largest es plain_sum v high
@@ -57,7 +56,7 @@ module _ (l : ComponentLists) (m : ConnectionLists) (outputs : List Output) (acc
 
   -- an unequal-delay reason is listed exactly where the plain sums differ
   pub base-unequal→ : (v low high : ℕ) → Memᴰ (unequal_reconvergent_delay v low high) (reasons cs es) → UnequalDelay cs es plain_sum plain_sum v low high
-  base-unequal→ = unequal-reason→ scene_limits l m outputs accepted room
+  base-unequal→ = unequal-reason→ scene_limits l m outputs accepts room
 
   pub →base-unequal : (v low high : ℕ) → UnequalDelay cs es plain_sum plain_sum v low high → Memᴰ (unequal_reconvergent_delay v low high) (reasons cs es)
-  →base-unequal = →unequal-reason scene_limits l m outputs accepted room
+  →base-unequal = →unequal-reason scene_limits l m outputs accepts room

@@ -2,17 +2,17 @@
 use mathlib.Core.List.{List, map}
 use mathlib.Core.Path.{◌≡◌, sym, ap, ◌∙◌}
 use Prim.Native.Nat.{ℕ}
+use Rattle.std.specs.Prelude.{Result, Ok}
 use lib.ListN.{length, take, length-map}
 use Rattle.rules.specs.Lists.{written}
 use Rattle.rules.specs.Scene.{Scene, ComponentLists, ConnectionLists, scene_of, edges}
 use Rattle.rules.specs.Labels.{labels, settled_flag, low_sum, high_sum}
 use Rattle.rules.specs.Reasons.{reasons, reason_kind, reason_component, reason_block, reason_minimum, reason_maximum, feedback}
 use Rattle.rules.specs.Projection.{projected, marks, path_starts, path_length, path_ids}
-use Rattle.rules.specs.Refusals.{SceneLimits}
+use Rattle.rules.specs.Refusals.{accepted, SceneLimits}
 use Rattle.rules.specs.Assess.{AssessLists, assessment, AssessedBy, AssessCall}
 use Rattle.rules.specs.declared.answers.Assessment.{Assessment}
-use Rattle.rules.specs.declared.answers.Checked.TheVariants.{Accepted}
-use Rattle.rules.specs.declared.answers.SceneAnswer.TheVariants.{Assessed}
+use Rattle.rules.specs.declared.answers.Refusal.{Refusal}
 use Rattle.rules.proofs.Written.{written-front}
 use Rattle.laws.proofs.Room.{marks-fit, labels-fit}
 use Rattle.laws.proofs.PathParts.{starts-length}
@@ -57,10 +57,11 @@ module _ {A B : Type 0} (f : A → B) (l old : List B) (xs : List A) (used : ℕ
   pub used-field : l ≡ written old (map f xs) → used ≡ length xs → take used l ≡ map f xs
   used-field e u = used-list l old (map f xs) used e (u ∙ sym (length-map xs f))
 
-pub assessed-same : {a b : Assessment} → Assessed a ≡ Assessed b → a ≡ b
+-- equal answers say the same
+pub assessed-same : {A : Type 0} {a b : A} → ◌≡◌ {A = Result A Refusal} (Ok a) (Ok b) → a ≡ b
 assessed-same e = cc
 
-entries-in-use : (s : Scene) (old new : AssessLists) (a : Assessment) → AssessedBy Accepted s old new (Assessed a) → EntriesInUse s a new
+entries-in-use : (s : Scene) (old new : AssessLists) (a : Assessment) → AssessedBy accepted s old new (Ok a) → EntriesInUse s a new
 unfolding assessment
 entries-in-use s old new a call =
     let e = assessed-same call.answered in
@@ -95,6 +96,6 @@ entries-in-use s old new a call =
     }
 
 -- "Both get the answers of document 01's rules"
-pub assess-entries : (limits : SceneLimits) (l : ComponentLists) (m : ConnectionLists) (old new : AssessLists) (a : Assessment) → AssessCall limits l m old new (Assessed a)
+pub assess-entries : (limits : SceneLimits) (l : ComponentLists) (m : ConnectionLists) (old new : AssessLists) (a : Assessment) → AssessCall limits l m old new (Ok a)
     → EntriesInUse (scene_of l m) a new
 assess-entries limits l m old new a call = entries-in-use (scene_of l m) old new a (assess-accepted limits l m old new a call).1

@@ -1,20 +1,19 @@
 -- Demand 3, second half, for what list 3 holds after an accepted call. Assumes nothing.
 use mathlib.Core.List.Memᴰ
 use mathlib.Core.List.{List, Memᴰ, map}
-use mathlib.Core.Path.{◌≡◌, refl, sym, ap, subst, ◌∙◌}
+use mathlib.Core.Path.{◌≡◌, sym, ap, subst, ◌∙◌}
 use Prim.Native.Nat.{ℕ, ◌-◌, ◌*◌, ◌≤◌, ◌<◌}
 use native.Mathlib.Omega.{arith}
+use Rattle.std.specs.Prelude.{Ok}
 use lib.ListN.{length, get_or, length-map}
 use Rattle.rules.specs.Lists.{written}
 use Rattle.rules.specs.Delay.{cap}
 use Rattle.rules.specs.Scene.{Scene, ComponentLists, ConnectionLists, components_of, connections_of, scene_of, edges, edges_of, delay_at}
 use Rattle.rules.specs.Paths.{total}
-use Rattle.rules.specs.Reasons.{Reason, unequal_reconvergent_delay, feedback_loop, stateful_or_mechanical_device, locked_repeater, reason_kind, reason_component, reason_minimum, reason_maximum, reasons, UnequalDelay}
-use Rattle.rules.specs.Refusals.{SceneLimits, scene_limits}
+use Rattle.rules.specs.Reasons.{Reason, unequal_reconvergent_delay, feedback_loop, reason_kind, reason_component, reason_minimum, reason_maximum, reasons, UnequalDelay}
+use Rattle.rules.specs.Refusals.{accepted, SceneLimits, scene_limits}
 use Rattle.rules.specs.Assess.{AssessLists, assessment, check_assess, assess_checked, AssessedBy, AssessCall}
 use Rattle.rules.specs.declared.answers.Assessment.{Assessment}
-use Rattle.rules.specs.declared.answers.Checked.TheVariants.{Accepted}
-use Rattle.rules.specs.declared.answers.SceneAnswer.TheVariants.{Assessed}
 use Rattle.rules.proofs.Indices.{at_mem, mem-at}
 use Rattle.rules.proofs.Written.{written-length}
 use Rattle.laws.proofs.UnequalReasons.{unequal-reason→, →unequal-reason}
@@ -37,10 +36,7 @@ pub record ShowsUnequal (used : ℕ) (new : AssessLists) (v low high : ℕ) : Ty
 
 -- a reason of kind 0 is an unequal delay
 kind-unequal : (r : Reason) → reason_kind r ≡ 0 → r ≡ unequal_reconvergent_delay (reason_component r) (reason_minimum r) (reason_maximum r)
-kind-unequal (unequal_reconvergent_delay v low high) e = refl
-kind-unequal feedback_loop e = absurd (omega arith)
-kind-unequal (stateful_or_mechanical_device v block) e = absurd (omega arith)
-kind-unequal (locked_repeater v) e = absurd (omega arith)
+kind-unequal r e = grind arith
 
 -- an entry of a list to which one field of these reasons was written
 module _ (rs : List Reason) (field : Reason → ℕ) (l old : List ℕ) (written-to : l ≡ written old (map field rs)) (k : ℕ) (below : k < length rs) where
@@ -51,7 +47,7 @@ module _ (rs : List Reason) (field : Reason → ℕ) (l old : List ℕ) (written
   )
 
 -- list 3 shows an unequal-delay reason exactly if it is one of the reasons
-module _ (s : Scene) (old new : AssessLists) (a : Assessment) (call : AssessedBy Accepted s old new (Assessed a)) (v low high : ℕ) where
+module _ (s : Scene) (old new : AssessLists) (a : Assessment) (call : AssessedBy accepted s old new (Ok a)) (v low high : ℕ) where
   abbrev rs : List Reason
   rs = reasons s.components (edges s)
 
@@ -91,22 +87,22 @@ Unequal l m v low high =
     UnequalDelay (components_of l) (edges_of (connections_of m)) plain plain v low high
 
 module _ (limits : SceneLimits) (room : (limits.components - 1) * 255 ≤ cap) (l : ComponentLists) (m : ConnectionLists) (old new : AssessLists)
-    (a : Assessment) (call : AssessCall limits l m old new (Assessed a)) (v low high : ℕ) where
-  accepted : assess_checked limits l m old ≡ Accepted
-  accepted = (assess-accepted limits l m old new a call).0
+    (a : Assessment) (call : AssessCall limits l m old new (Ok a)) (v low high : ℕ) where
+  accepts : assess_checked limits l m old ≡ accepted
+  accepts = (assess-accepted limits l m old new a call).0
 
   -- "In every accepted scene .. an unequal-delay reason names a component exactly when .. It shows those two sums."
   pub shown→unequal : ShowsUnequal a.reasons new v low high → Unequal l m v low high
   unfolding check_assess
-  shown→unequal x = unequal-reason→ limits l m _ accepted room v low high (shown→listed (scene_of l m) old new a (assess-accepted limits l m old new a call).1 v low high x)
+  shown→unequal x = unequal-reason→ limits l m _ accepts room v low high (shown→listed (scene_of l m) old new a (assess-accepted limits l m old new a call).1 v low high x)
 
   pub unequal→shown : Unequal l m v low high → ShowsUnequal a.reasons new v low high
   unfolding check_assess
-  unequal→shown u = listed→shown (scene_of l m) old new a (assess-accepted limits l m old new a call).1 v low high (→unequal-reason limits l m _ accepted room v low high u)
+  unequal→shown u = listed→shown (scene_of l m) old new a (assess-accepted limits l m old new a call).1 v low high (→unequal-reason limits l m _ accepts room v low high u)
 
 -- so with the limits of the base: 511 delays of 255 do not meet the cap
 module _ (l : ComponentLists) (m : ConnectionLists) (old new : AssessLists) (a : Assessment)
-    (call : AssessCall scene_limits l m old new (Assessed a)) (v low high : ℕ) where
+    (call : AssessCall scene_limits l m old new (Ok a)) (v low high : ℕ) where
   pub base-shown→unequal : ShowsUnequal a.reasons new v low high → Unequal l m v low high
   base-shown→unequal = shown→unequal scene_limits (omega arith) l m old new a call v low high
 

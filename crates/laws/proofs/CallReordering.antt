@@ -3,16 +3,15 @@ use mathlib.Core.Bool.{Bool}
 use mathlib.Core.List.{List, [], ◌∷◌}
 use mathlib.Core.Path.{◌≡◌, sym, ap, ◌∙◌}
 use Prim.Native.Nat.{ℕ}
+use Rattle.std.specs.Prelude.{Result, Ok}
 use lib.ListN.{length, get_or, take}
 use Rattle.rules.specs.Lists.{count}
 use Rattle.rules.specs.Scene.{Scene, ComponentLists, ConnectionLists, components_of, scene_of}
 use Rattle.rules.specs.Projection.{ProjectedEdge}
-use Rattle.rules.specs.Refusals.{SceneLimits}
+use Rattle.rules.specs.Refusals.{accepted, SceneLimits}
 use Rattle.rules.specs.Assess.{AssessLists, check_assess, assess_checked, scene_answer, AssessCall}
 use Rattle.rules.specs.declared.answers.Assessment.{Assessment}
-use Rattle.rules.specs.declared.answers.Checked.TheVariants.{Accepted}
-use Rattle.rules.specs.declared.answers.SceneAnswer.{SceneAnswer}
-use Rattle.rules.specs.declared.answers.SceneAnswer.TheVariants.{Assessed}
+use Rattle.rules.specs.declared.answers.Refusal.{Refusal}
 use Rattle.rules.proofs.Columns.{ConnectionsAligned}
 use Rattle.laws.proofs.Reordering.{Reordered, same-answers, same-assess}
 use Rattle.laws.proofs.StoredEdges.{stored_edges}
@@ -64,7 +63,7 @@ module _ (s t : Scene) (r : Reordered s t) (a a' : Assessment) (new new' : Asses
 module _ (limits : SceneLimits) (l l' : ComponentLists) (m m' : ConnectionLists) (r : Reordered (scene_of l m) (scene_of l' m')) where
   -- both calls accept: the answers and the entries in use are the same
   pub same_entries : (old new old' new' : AssessLists) (a a' : Assessment)
-      → AssessCall limits l m old new (Assessed a) → AssessCall limits l' m' old' new' (Assessed a') → SameEntries (length (components_of l)) a a' new new'
+      → AssessCall limits l m old new (Ok a) → AssessCall limits l' m' old' new' (Ok a') → SameEntries (length (components_of l)) a a' new new'
   same_entries old new old' new' a a' one two =
       entries-same (scene_of l m) (scene_of l' m') r a a' new new' (assess-entries limits l m old new a one) (assess-entries limits l' m' old' new' a' two)
 
@@ -88,10 +87,10 @@ checked-same limits l m old old' e = ap (λ r. check_assess limits l m (get_or r
 
 module _ (limits : SceneLimits) (l : ComponentLists) (m m' : ConnectionLists) (r : Reordered (scene_of l m) (scene_of l m')) (aligned : ConnectionsAligned m') where
   -- with lists as long, the one call is accepted if the other is, with the same answer
-  pub assessed-together : (old new old' new' : AssessLists) (a : Assessment) (answer : SceneAnswer) → assess_lengths old ≡ assess_lengths old'
-      → AssessCall limits l m old new (Assessed a) → AssessCall limits l m' old' new' answer → answer ≡ Assessed a
+  pub assessed-together : (old new old' new' : AssessLists) (a : Assessment) (answer : Result Assessment Refusal) → assess_lengths old ≡ assess_lengths old'
+      → AssessCall limits l m old new (Ok a) → AssessCall limits l m' old' new' answer → answer ≡ Ok a
   assessed-together old new old' new' a answer lengths one two =
       let e = (assess-accepted limits l m old new a one).0 in
-      let e' : assess_checked limits l m' old' ≡ Accepted = sym (checked-same limits l m' old old' lengths) ∙ same-assess limits l m m' r aligned _ _ _ _ _ _ e in
+      let e' : assess_checked limits l m' old' ≡ accepted = sym (checked-same limits l m' old old' lengths) ∙ same-assess limits l m m' r aligned _ _ _ _ _ _ e in
       two.answered ∙ ap (λ c. scene_answer c (scene_of l m')) e'
-      ∙ ap Assessed (sym ((assess-entries limits l m old new a one).is_assessment ∙ (same-answers (scene_of l m) (scene_of l m') r).same_assessment))
+      ∙ ap Ok (sym ((assess-entries limits l m old new a one).is_assessment ∙ (same-answers (scene_of l m) (scene_of l m') r).same_assessment))

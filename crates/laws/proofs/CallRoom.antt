@@ -9,10 +9,9 @@ use Rattle.rules.specs.Graph.{Edge}
 use Rattle.rules.specs.Labels.{labels}
 use Rattle.rules.specs.Reasons.{feedback, reasons}
 use Rattle.rules.specs.Projection.{marks, projected, path_ids}
-use Rattle.rules.specs.Refusals.{SceneLimits}
+use Rattle.rules.specs.Refusals.{accepted, SceneLimits}
 use Rattle.rules.specs.Describe.{timed_edges, devices, evidence, describe_outputs, check_describe}
 use Rattle.rules.specs.Assess.{assess_outputs, check_assess}
-use Rattle.rules.specs.declared.answers.Checked.TheVariants.{Accepted}
 use Rattle.rules.proofs.Columns.{components_length, connections-length}
 use Rattle.rules.proofs.Acceptance.{accepted→}
 use Rattle.laws.proofs.Room.{timed-edges-fit, devices-fit, evidence-fit, reasons-fit, feedback-fit, marks-fit, labels-fit, accepted-projected, accepted-path-ids}
@@ -46,7 +45,7 @@ module _ (limits : SceneLimits) (l : ComponentLists) (m : ConnectionLists) where
   abbrev es : List Edge
   es = edges_of ns
 
-  pub describe-room : (l0 l1 l2 : List ℕ) → check_describe limits l m l0 l1 l2 ≡ Accepted → DescribeRoom cs ns l0 l1 l2
+  pub describe-room : (l0 l1 l2 : List ℕ) → check_describe limits l m l0 l1 l2 ≡ accepted → DescribeRoom cs ns l0 l1 l2
   unfolding check_describe
   describe-room l0 l1 l2 e =
       let outputs = describe_outputs (length l.ids) (length m.sources) l0 l1 l2 in
@@ -57,7 +56,7 @@ module _ (limits : SceneLimits) (l : ComponentLists) (m : ConnectionLists) where
         evidence_room = λ n k. omega (arith, evidence-fit cs ns, connections-length m, components_length l, long _ (Memᴰ.tail (Memᴰ.tail (Memᴰ.head refl))) n k);
       }
 
-  pub assess-room : (l3 l4 l5 l6 l7 l8 : List ℕ) → check_assess limits l m l3 l4 l5 l6 l7 l8 ≡ Accepted → AssessRoom cs es l3 l4 l5 l6 l7 l8
+  pub assess-room : (l3 l4 l5 l6 l7 l8 : List ℕ) → check_assess limits l m l3 l4 l5 l6 l7 l8 ≡ accepted → AssessRoom cs es l3 l4 l5 l6 l7 l8
   unfolding check_assess
   assess-room l3 l4 l5 l6 l7 l8 e =
       let outputs = assess_outputs (length l.ids) (length m.sources) l3 l4 l5 l6 l7 l8 in

@@ -4,21 +4,21 @@ use mathlib.Core.List.{List, [], ◌∷◌, map}
 use mathlib.Core.Path.{◌≡◌, sym, ap, ◌∙◌}
 use Prim.Native.Nat.{ℕ, ◌<◌}
 use native.Mathlib.Omega.{arith}
+use Rattle.std.specs.Prelude.{Result, Ok}
 use lib.ListN.{length, get_or, take, length-map}
 use Rattle.rules.specs.Lists.{count, indices, written}
 use Rattle.rules.specs.Scene.{Scene, ComponentLists, ConnectionLists, scene_of}
-use Rattle.rules.specs.Refusals.{SceneLimits}
+use Rattle.rules.specs.Refusals.{accepted, SceneLimits}
 use Rattle.rules.specs.Describe.{TimedEdge, timed_edges, TemporalDevice, devices, Evidence, verified_physical_connection, evidence_kind, evidence_source, evidence_sink, evidence_component, evidence_block, evidence, check_describe, DescribeLists, description, describe_checked, DescribedBy, DescribeCall}
-use Rattle.rules.specs.declared.answers.Checked.TheVariants.{Accepted}
 use Rattle.rules.specs.declared.answers.Description.{Description}
-use Rattle.rules.specs.declared.answers.Description.TheVariants.{Described}
+use Rattle.rules.specs.declared.answers.Refusal.{Refusal}
 use Rattle.rules.proofs.Columns.{ConnectionsAligned}
 use Rattle.rules.proofs.Counts.{count_map}
 use Rattle.rules.proofs.Indices.{map_at, made-same}
 use Rattle.laws.proofs.Reordering.{Reordered, same-description, same-describe}
 use Rattle.laws.proofs.StoredEdges.{field_back}
 use Rattle.laws.proofs.CallRefusals.{describe-accepted}
-use Rattle.laws.proofs.CallEntries.{used-field}
+use Rattle.laws.proofs.CallEntries.{assessed-same, used-field}
 
 -- an entry of list 2, field by field
 pub record EvidenceEntry : Type 0 where
@@ -49,23 +49,22 @@ stored_evidence o k =
       block = get_or o.evidence_blocks k 0;
     }
 
--- What two calls answer, with so many timed edges (e), devices (d) and evidence (v), and leave in their lists. These entries were written, so
--- after an accepted call every list is as long as its entries in use
-pub record SameDescribed (e d v e' d' v' : ℕ) (new new' : DescribeLists) : Type 0 where
-  pub same_edge_count : e ≡ e'
-  pub same_device_count : d ≡ d'
-  pub same_evidence_count : v ≡ v'
+-- What two calls answer and leave in their lists. These entries were written, so after an accepted call every list is as long as its
+-- entries in use
+pub record SameDescribed (a a' : Description) (new new' : DescribeLists) : Type 0 where
+  -- every count
+  pub same_description : a ≡ a'
   -- list 0, which follows connection order: each entry equally often
-  pub same_timed_edges : (test : TimedEdge → Bool) → count test (map (stored_timed_edge new) (indices e)) ≡ count test (map (stored_timed_edge new') (indices e'))
+  pub same_timed_edges : (test : TimedEdge → Bool) → count test (map (stored_timed_edge new) (indices a.timed_edges)) ≡ count test (map (stored_timed_edge new') (indices a'.timed_edges))
   -- list 1, in component order
-  pub same_device_components : take d new.device_components ≡ take d' new'.device_components
-  pub same_device_xs : take d new.device_xs ≡ take d' new'.device_xs
-  pub same_device_ys : take d new.device_ys ≡ take d' new'.device_ys
-  pub same_device_zs : take d new.device_zs ≡ take d' new'.device_zs
-  pub same_device_semantics : take d new.device_semantics ≡ take d' new'.device_semantics
-  pub same_device_delays : take d new.device_delays ≡ take d' new'.device_delays
+  pub same_device_components : take a.devices new.device_components ≡ take a'.devices new'.device_components
+  pub same_device_xs : take a.devices new.device_xs ≡ take a'.devices new'.device_xs
+  pub same_device_ys : take a.devices new.device_ys ≡ take a'.devices new'.device_ys
+  pub same_device_zs : take a.devices new.device_zs ≡ take a'.devices new'.device_zs
+  pub same_device_semantics : take a.devices new.device_semantics ≡ take a'.devices new'.device_semantics
+  pub same_device_delays : take a.devices new.device_delays ≡ take a'.devices new'.device_delays
   -- list 2: each entry equally often
-  pub same_evidence : (test : EvidenceEntry → Bool) → count test (map (stored_evidence new) (indices v)) ≡ count test (map (stored_evidence new') (indices v'))
+  pub same_evidence : (test : EvidenceEntry → Bool) → count test (map (stored_evidence new) (indices a.evidence)) ≡ count test (map (stored_evidence new') (indices a'.evidence))
 
 abbrev evidence_entry : Evidence → EvidenceEntry
 evidence_entry x = record { kind = evidence_kind x; source = evidence_source x; sink = evidence_sink x; component = evidence_component x; block = evidence_block x }
@@ -77,7 +76,7 @@ no_evidence : Evidence
 no_evidence = verified_physical_connection 0 0
 
 -- what was written is what is read
-module _ (s : Scene) (old new : DescribeLists) (e d v : ℕ) (call : DescribedBy Accepted s old new (Described e d v)) where
+module _ (s : Scene) (old new : DescribeLists) (a : Description) (call : DescribedBy accepted s old new (Ok a)) where
   abbrev es : List TimedEdge
   es = timed_edges s.components s.connections
 
@@ -87,29 +86,30 @@ module _ (s : Scene) (old new : DescribeLists) (e d v : ℕ) (call : DescribedBy
   abbrev vs : List Evidence
   vs = evidence s.components s.connections
 
-  edge_count : e ≡ length es
-  edge_count = let q = call.answered in cc
+  edge_count : a.timed_edges ≡ length es
+  edge_count = ap (λ a. a.timed_edges) (assessed-same call.answered)
 
-  device-count : d ≡ length ds
-  device-count = let q = call.answered in cc
+  device-count : a.devices ≡ length ds
+  device-count = ap (λ a. a.devices) (assessed-same call.answered)
 
-  evidence-count : v ≡ length vs
-  evidence-count = let q = call.answered in cc
+  evidence-count : a.evidence ≡ length vs
+  evidence-count = ap (λ a. a.evidence) (assessed-same call.answered)
 
-  timed-back : map (stored_timed_edge new) (indices e) ≡ es
+  timed-back : map (stored_timed_edge new) (indices a.timed_edges) ≡ es
   unfolding stored_timed_edge
   timed-back = ap (λ n. map (stored_timed_edge new) (indices n)) edge_count ∙ made-same (stored_timed_edge new) es no_edge back
     where
       back : (k : ℕ) → k < length es → stored_timed_edge new k ≡ get_or es k no_edge
       back k h =
-          let a = field_back (λ t. t.source) _ _ es no_edge 0 k call.edge_sources h in
-          let b = field_back (λ t. t.sink) _ _ es no_edge 0 k call.edge_sinks h in
-          let c = field_back (λ t. t.minimum) _ _ es no_edge 0 k call.edge_minimums h in
-          let f = field_back (λ t. t.maximum) _ _ es no_edge 0 k call.edge_maximums h in
-          let g = field_back (λ t. t.behavior) _ _ es no_edge 0 k call.edge_behaviors h in
-          rw (a, b, c, f, g)
+          rw (
+            field_back (λ t. t.source) _ _ es no_edge 0 k call.edge_sources h,
+            field_back (λ t. t.sink) _ _ es no_edge 0 k call.edge_sinks h,
+            field_back (λ t. t.minimum) _ _ es no_edge 0 k call.edge_minimums h,
+            field_back (λ t. t.maximum) _ _ es no_edge 0 k call.edge_maximums h,
+            field_back (λ t. t.behavior) _ _ es no_edge 0 k call.edge_behaviors h,
+          )
 
-  evidence-back : map (stored_evidence new) (indices v) ≡ map evidence_entry vs
+  evidence-back : map (stored_evidence new) (indices a.evidence) ≡ map evidence_entry vs
   unfolding stored_evidence
   evidence-back =
       ap (λ n. map (stored_evidence new) (indices n)) (evidence-count ∙ sym (length-map vs evidence_entry))
@@ -118,14 +118,16 @@ module _ (s : Scene) (old new : DescribeLists) (e d v : ℕ) (call : DescribedBy
       back : (k : ℕ) → k < length (map evidence_entry vs) → stored_evidence new k ≡ get_or (map evidence_entry vs) k (evidence_entry no_evidence)
       back k i =
           let h : k < length vs = omega (arith, length-map vs evidence_entry) in
-          let a = field_back evidence_kind _ _ vs no_evidence 0 k call.evidence_kinds h in
-          let b = field_back evidence_source _ _ vs no_evidence 0 k call.evidence_sources h in
-          let c = field_back evidence_sink _ _ vs no_evidence 0 k call.evidence_sinks h in
-          let f = field_back evidence_component _ _ vs no_evidence 0 k call.evidence_components h in
-          let g = field_back evidence_block _ _ vs no_evidence 0 k call.evidence_blocks h in
-          rw (a, b, c, f, g, map_at evidence_entry vs k no_evidence (evidence_entry no_evidence) h)
+          rw (
+            field_back evidence_kind _ _ vs no_evidence 0 k call.evidence_kinds h,
+            field_back evidence_source _ _ vs no_evidence 0 k call.evidence_sources h,
+            field_back evidence_sink _ _ vs no_evidence 0 k call.evidence_sinks h,
+            field_back evidence_component _ _ vs no_evidence 0 k call.evidence_components h,
+            field_back evidence_block _ _ vs no_evidence 0 k call.evidence_blocks h,
+            map_at evidence_entry vs k no_evidence (evidence_entry no_evidence) h,
+          )
 
-  evidence-read : (test : EvidenceEntry → Bool) → count test (map (stored_evidence new) (indices v)) ≡ count (λ x. test (evidence_entry x)) vs
+  evidence-read : (test : EvidenceEntry → Bool) → count test (map (stored_evidence new) (indices a.evidence)) ≡ count (λ x. test (evidence_entry x)) vs
   evidence-read test = ap (count test) evidence-back ∙ count_map test evidence_entry vs
 
 -- one field of the same entries, written to two lists
@@ -133,40 +135,35 @@ same-field : {A B : Type 0} (f : A → B) (l old l' old' : List B) {xs xs' : Lis
     → n ≡ length xs → n' ≡ length xs' → xs ≡ xs' → take n l ≡ take n' l'
 same-field f l old l' old' {xs} {xs'} n n' e e' h h' same = used-field f l old xs n e h ∙ ap (map f) same ∙ sym (used-field f l' old' xs' n' e' h')
 
-module _ (s t : Scene) (r : Reordered s t) (old new old' new' : DescribeLists) (e d v e' d' v' : ℕ) where
-  described-same : DescribedBy Accepted s old new (Described e d v) → DescribedBy Accepted t old' new' (Described e' d' v')
-      → SameDescribed e d v e' d' v' new new'
+module _ (s t : Scene) (r : Reordered s t) (old new old' new' : DescribeLists) (a a' : Description) where
+  described-same : DescribedBy accepted s old new (Ok a) → DescribedBy accepted t old' new' (Ok a') → SameDescribed a a' new new'
   described-same one two =
       let same = same-description s t r in
-      let answers : Described e d v ≡ Described e' d' v' = one.answered ∙ same.same_counts ∙ sym two.answered in
-      let n = device-count s old new e d v one in
-      let n' = device-count t old' new' e' d' v' two in
-      let b = timed-back s old new e d v one in
-      let b' = timed-back t old' new' e' d' v' two in
-      let c = evidence-read s old new e d v one in
-      let c' = evidence-read t old' new' e' d' v' two in
+      let d = device-count s old new a one in
+      let d' = device-count t old' new' a' two in
+      let b = timed-back s old new a one in
+      let b' = timed-back t old' new' a' two in
+      let c = evidence-read s old new a one in
+      let c' = evidence-read t old' new' a' two in
       record {
-        same_edge_count = cc;
-        same_device_count = cc;
-        same_evidence_count = cc;
+        same_description = assessed-same (one.answered ∙ same.same_counts ∙ sym two.answered);
         same_timed_edges = λ test. rw (b, b') (same.same_timed test);
-        same_device_components = same-field (λ x. x.component) _ _ _ _ d d' one.device_components two.device_components n n' same.same_devices;
-        same_device_xs = same-field (λ x. x.x) _ _ _ _ d d' one.device_xs two.device_xs n n' same.same_devices;
-        same_device_ys = same-field (λ x. x.y) _ _ _ _ d d' one.device_ys two.device_ys n n' same.same_devices;
-        same_device_zs = same-field (λ x. x.z) _ _ _ _ d d' one.device_zs two.device_zs n n' same.same_devices;
-        same_device_semantics = same-field (λ x. x.semantics) _ _ _ _ d d' one.device_semantics two.device_semantics n n' same.same_devices;
-        same_device_delays = same-field (λ x. x.minimum_delay) _ _ _ _ d d' one.device_delays two.device_delays n n' same.same_devices;
+        same_device_components = same-field (λ x. x.component) _ _ _ _ _ _ one.device_components two.device_components d d' same.same_devices;
+        same_device_xs = same-field (λ x. x.x) _ _ _ _ _ _ one.device_xs two.device_xs d d' same.same_devices;
+        same_device_ys = same-field (λ x. x.y) _ _ _ _ _ _ one.device_ys two.device_ys d d' same.same_devices;
+        same_device_zs = same-field (λ x. x.z) _ _ _ _ _ _ one.device_zs two.device_zs d d' same.same_devices;
+        same_device_semantics = same-field (λ x. x.semantics) _ _ _ _ _ _ one.device_semantics two.device_semantics d d' same.same_devices;
+        same_device_delays = same-field (λ x. x.minimum_delay) _ _ _ _ _ _ one.device_delays two.device_delays d d' same.same_devices;
         same_evidence = λ test. rw (c test, c' test) (same.same_evidence (λ x. test (evidence_entry x)));
       }
 
 module _ (limits : SceneLimits) (l l' : ComponentLists) (m m' : ConnectionLists) (r : Reordered (scene_of l m) (scene_of l' m')) where
   -- both calls accept: the counts are the same, and the entries in use, each equally often
-  pub same-described : (old new old' new' : DescribeLists) (e d v e' d' v' : ℕ)
-      → DescribeCall limits l m old new (Described e d v) → DescribeCall limits l' m' old' new' (Described e' d' v')
-      → SameDescribed e d v e' d' v' new new'
-  same-described old new old' new' e d v e' d' v' one two =
-      described-same (scene_of l m) (scene_of l' m') r old new old' new' e d v e' d' v'
-      (describe-accepted limits l m old new e d v one).1 (describe-accepted limits l' m' old' new' e' d' v' two).1
+  pub same-described : (old new old' new' : DescribeLists) (a a' : Description)
+      → DescribeCall limits l m old new (Ok a) → DescribeCall limits l' m' old' new' (Ok a') → SameDescribed a a' new new'
+  same-described old new old' new' a a' one two =
+      described-same (scene_of l m) (scene_of l' m') r old new old' new' a a'
+      (describe-accepted limits l m old new a one).1 (describe-accepted limits l' m' old' new' a' two).1
 
 -- how long the lists are that a call is lent: a row for each of lists 0, 1 and 2, a length for each field
 unfoldable pub describe_lengths : DescribeLists → List (List ℕ)
@@ -183,9 +180,9 @@ checked-same limits l m old old' e = ap (λ r. check_describe limits l m (get_or
 
 module _ (limits : SceneLimits) (l : ComponentLists) (m m' : ConnectionLists) (r : Reordered (scene_of l m) (scene_of l m')) (aligned : ConnectionsAligned m') where
   -- with lists as long, the one call is accepted if the other is, with the same answer
-  pub described-together : (old new old' new' : DescribeLists) (e d v : ℕ) (answer : Description) → describe_lengths old ≡ describe_lengths old'
-      → DescribeCall limits l m old new (Described e d v) → DescribeCall limits l m' old' new' answer → answer ≡ Described e d v
-  described-together old new old' new' e d v answer lengths one two =
-      let a = describe-accepted limits l m old new e d v one in
-      let b : describe_checked limits l m' old' ≡ Accepted = sym (checked-same limits l m' old old' lengths) ∙ same-describe limits l m m' r aligned _ _ _ a.0 in
-      two.answered ∙ ap (λ c. description c (scene_of l m')) b ∙ sym (a.1.answered ∙ (same-description (scene_of l m) (scene_of l m') r).same_counts)
+  pub described-together : (old new old' new' : DescribeLists) (a : Description) (answer : Result Description Refusal) → describe_lengths old ≡ describe_lengths old'
+      → DescribeCall limits l m old new (Ok a) → DescribeCall limits l m' old' new' answer → answer ≡ Ok a
+  described-together old new old' new' a answer lengths one two =
+      let e = describe-accepted limits l m old new a one in
+      let e' : describe_checked limits l m' old' ≡ accepted = sym (checked-same limits l m' old old' lengths) ∙ same-describe limits l m m' r aligned _ _ _ e.0 in
+      two.answered ∙ ap (λ c. description c (scene_of l m')) e' ∙ sym (e.1.answered ∙ (same-description (scene_of l m) (scene_of l m') r).same_counts)

@@ -12,8 +12,7 @@ use Rattle.rules.specs.Scene.{Component, ComponentLists, ConnectionLists, compon
 use Rattle.rules.specs.Graph.{Edge, source_of, starts_at, strongly_connected}
 use Rattle.rules.specs.Reasons.{in_feedback, feedback, reason_component, unequal_at, unequal_reason, unequal_reasons_by, unequal_reasons}
 use Rattle.rules.specs.Projection.{compressed, retained, first_edges, before_last, ProjectedEdge, projected_by, projected_along, projected}
-use Rattle.rules.specs.Refusals.{SceneLimits, Output, check_scene}
-use Rattle.rules.specs.declared.answers.Checked.TheVariants.{Accepted}
+use Rattle.rules.specs.Refusals.{accepted, SceneLimits, Output, check_scene}
 use Rattle.rules.proofs.Lists.{and_left, and_right, and_both, eq_test, keep-in, keep_out, flat_out}
 use Rattle.rules.proofs.Permutations.{perm-mem}
 use Rattle.rules.proofs.Counts.{count-append, count_none, count-keep, count_under, count-split, count_map, distinct-once, distinct-keep}
@@ -170,7 +169,7 @@ module _ (cs : List Component) (es : List Edge) where
         leaves e m t = keep-in (λ v. not (compressed cs es v)) (perm-mem (rising-ids-perm cs) (source_of e) (listed e m).0) (and_left (not (compressed cs es (source_of e))) (q e) t)
 
 -- So for an accepted scene; that the rows rise needs no acceptance
-module _ (limits : SceneLimits) (l : ComponentLists) (m : ConnectionLists) (outputs : List Output) (accepted : check_scene limits l m outputs ≡ Accepted) where
+module _ (limits : SceneLimits) (l : ComponentLists) (m : ConnectionLists) (outputs : List Output) (accepts : check_scene limits l m outputs ≡ accepted) where
   abbrev cs : List Component
   cs = components_of l
 
@@ -178,7 +177,7 @@ module _ (limits : SceneLimits) (l : ComponentLists) (m : ConnectionLists) (outp
   es = edges_of (connections_of m)
 
   facts : AcceptedScene limits l m outputs
-  facts = accepted→ limits l m outputs accepted
+  facts = accepted→ limits l m outputs accepts
 
   pub accepted-entry : (p : ProjectedEdge) → Memᴰ p (projected cs es) → ProjectedFacts cs es p
   accepted-entry = projected-entry cs es (edge-ends facts)

@@ -39,5 +39,3 @@ pub mod Renaming
 pub mod RenamedProjection
 pub mod PositionEdges
 pub mod ByPosition
--- what is left at exit of parameters that a function by hand passes on as they came
-pub mod Left

@@ -8,13 +8,12 @@ use native.Mathlib.Omega.{arith}
 use lib.Dec.{T, leb, ltb, leb→le}
 use lib.IntN.{pos}
 use lib.ListN.{length, get_or, length-map}
+use Rattle.std.specs.Prelude.{Ok, Err}
 use Rattle.rules.specs.Lists.{every}
 use Rattle.rules.specs.Scene.{Component, Connection, Scene, ComponentLists, ConnectionLists, component_at, connection_at, components_of, connections_of, scene_of, id_of}
-use Rattle.rules.specs.Refusals.{Test, SceneLimits, scene_limits, Output, output_test, first_refusal, size_tests, scene_tests, check_scene}
+use Rattle.rules.specs.Refusals.{Checked, accepted, Test, SceneLimits, scene_limits, Output, output_test, first_refusal, size_tests, scene_tests, check_scene}
 use Rattle.rules.specs.Assess.{check_assess}
 use Rattle.rules.specs.Report.{component_fields, connection_fields, check_read}
-use Rattle.rules.specs.declared.answers.Checked.{Checked}
-use Rattle.rules.specs.declared.answers.Checked.TheVariants.{Accepted, Refused}
 use Rattle.rules.proofs.Lists.{and_left, and_right}
 use Rattle.rules.proofs.Indices.{map_at, made-same}
 use Rattle.rules.proofs.FirstRefusal.{skip, stay, none-holds, none-map, accepted-if, at_most}
@@ -35,14 +34,15 @@ fields-components cs = rw (length-map cs id_of) (made-same (component_at (compon
   where
     back : (i : ℕ) → i < length cs → component_at (component_fields cs) i ≡ get_or cs i blank_component
     back i h =
-        let a = map_at id_of cs i blank_component 0 h in
-        let b = map_at (λ c. c.kind) cs i blank_component 0 h in
-        let c = map_at (λ c. c.delay) cs i blank_component 0 h in
-        let d = map_at (λ c. c.locked) cs i blank_component 0 h in
-        let e = map_at (λ c. c.x) cs i blank_component (pos 0) h in
-        let f = map_at (λ c. c.y) cs i blank_component (pos 0) h in
-        let g = map_at (λ c. c.z) cs i blank_component (pos 0) h in
-        rw (a, b, c, d, e, f, g)
+        rw (
+          map_at id_of cs i blank_component 0 h,
+          map_at (λ c. c.kind) cs i blank_component 0 h,
+          map_at (λ c. c.delay) cs i blank_component 0 h,
+          map_at (λ c. c.locked) cs i blank_component 0 h,
+          map_at (λ c. c.x) cs i blank_component (pos 0) h,
+          map_at (λ c. c.y) cs i blank_component (pos 0) h,
+          map_at (λ c. c.z) cs i blank_component (pos 0) h,
+        )
 
 pub fields-connections : (ns : List Connection) → connections_of (connection_fields ns) ≡ ns
 unfolding connections_of connection_at
@@ -50,21 +50,18 @@ fields-connections ns = rw (length-map ns (λ n. n.source)) (made-same (connecti
   where
     back : (i : ℕ) → i < length ns → connection_at (connection_fields ns) i ≡ get_or ns i blank_connection
     back i h =
-        let a = map_at (λ n. n.source) ns i blank_connection 0 h in
-        let b = map_at (λ n. n.sink) ns i blank_connection 0 h in
-        let c = map_at (λ n. n.transfer) ns i blank_connection 0 h in
-        rw (a, b, c)
+        rw (map_at (λ n. n.source) ns i blank_connection 0 h, map_at (λ n. n.sink) ns i blank_connection 0 h, map_at (λ n. n.transfer) ns i blank_connection 0 h)
 
 pub fields-scene : (s : Scene) → scene_of (component_fields s.components) (connection_fields s.connections) ≡ s
 fields-scene s = rw (fields-components s.components, fields-connections s.connections)
 
 -- tests between two groups, none of which holds where the first group accepts, change nothing
-between_none : (a b c : List Test) → (first_refusal a ≡ Accepted → first_refusal b ≡ Accepted) → first_refusal (a ++ (b ++ c)) ≡ first_refusal (a ++ c)
+between_none : (a b c : List Test) → (first_refusal a ≡ accepted → first_refusal b ≡ accepted) → first_refusal (a ++ (b ++ c)) ≡ first_refusal (a ++ c)
 between_none a b c h = go (first_refusal a) refl h
   where
-    go : (v : Checked) → v ≡ first_refusal a → (first_refusal a ≡ Accepted → first_refusal b ≡ Accepted) → first_refusal (a ++ (b ++ c)) ≡ first_refusal (a ++ c)
-    go (Refused n p) e h = sym (stay a (b ++ c) e) ∙ stay a c e
-    go Accepted e h = sym (skip a (b ++ c) e (skip b c (sym (h (sym e))) refl)) ∙ skip a c e refl
+    go : (v : Checked) → v ≡ first_refusal a → (first_refusal a ≡ accepted → first_refusal b ≡ accepted) → first_refusal (a ++ (b ++ c)) ≡ first_refusal (a ++ c)
+    go (Err r) e h = sym (stay a (b ++ c) e) ∙ stay a c e
+    go (Ok u) e h = sym (skip a (b ++ c) e (skip b c (sym (h (sym e))) refl)) ∙ skip a c e refl
 
 module _ (limits : SceneLimits) (l : ComponentLists) (m : ConnectionLists) where
   -- output lists that are long enough for a scene within the limits are never refused
@@ -74,7 +71,7 @@ module _ (limits : SceneLimits) (l : ComponentLists) (m : ConnectionLists) where
   unfolding check_scene scene_tests size_tests
   long-outputs outputs long = between_none (size_tests limits l m []) (map output_test outputs) _ none-short
     where
-      none-short : first_refusal (size_tests limits l m []) ≡ Accepted → first_refusal (map output_test outputs) ≡ Accepted
+      none-short : first_refusal (size_tests limits l m []) ≡ accepted → first_refusal (map output_test outputs) ≡ accepted
       none-short e = accepted-if _ (none-map output_test outputs (λ o k. output-long-test o (long (at_most _ _ few-components) (at_most _ _ few-connections) o k)))
         where
           few-components : T (ltb limits.components (length l.ids)) → ⊥

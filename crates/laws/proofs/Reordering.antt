@@ -5,17 +5,17 @@ use mathlib.Core.List.Permᴰ
 use mathlib.Core.List.{List, map, Permᴰ}
 use mathlib.Core.Path.{◌≡◌, refl, sym, ◌∙◌}
 use Prim.Native.Nat.{ℕ}
+use native.Mathlib.Omega.{arith}
 use lib.ListN.{length}
-use lib.Dec.{T, eqb, eqb→eq, eqb_refl}
+use lib.Dec.{T, eqb→eq, eqb_refl}
 use Rattle.rules.specs.Lists.{count}
 use Rattle.rules.specs.Scene.{Component, Connection, Scene, ComponentLists, ConnectionLists, scene_of, edges, is_edge, same_connection, delay_at}
 use Rattle.rules.specs.Graph.{Edge}
 use Rattle.rules.specs.Reasons.{feedback, reasons}
 use Rattle.rules.specs.Projection.{ProjectedEdge, marks, projected}
-use Rattle.rules.specs.Refusals.{SceneLimits, Output, check_scene}
+use Rattle.rules.specs.Refusals.{accepted, SceneLimits, Output, check_scene}
 use Rattle.rules.specs.Describe.{TimedEdge, timed_edge, timed_edges, device_components, devices, Evidence, evidence, connection_evidence, device_evidence, description, describe_outputs, check_describe}
 use Rattle.rules.specs.Assess.{assessment, assess_outputs, check_assess}
-use Rattle.rules.specs.declared.answers.Checked.TheVariants.{Accepted}
 use Rattle.rules.specs.Labels.{labels}
 use Rattle.rules.proofs.Lists.{tests, and_left, and_right}
 use Rattle.rules.proofs.Permutations.{perm-count, perm-length, perm-keep}
@@ -42,24 +42,13 @@ pub record SameAnswers (s t : Scene) : Type 0 where
 
 -- lists 0, 1 and 2: as many entries, each equally often
 pub record SameDescription (s t : Scene) : Type 0 where
-  pub same_counts : description Accepted s ≡ description Accepted t
+  pub same_counts : description accepted s ≡ description accepted t
   pub same_timed : (test : TimedEdge → Bool) → count test (timed_edges s.components s.connections) ≡ count test (timed_edges t.components t.connections)
   pub same_devices : devices s.components ≡ devices t.components
   pub same_evidence : (test : Evidence → Bool) → count test (evidence s.components s.connections) ≡ count test (evidence t.components t.connections)
 
-abbrev connection : ℕ → ℕ → ℕ → Connection
-connection a b c = record { source = a; sink = b; transfer = c }
-
-connection-same : {a b c a' b' c' : ℕ} → a ≡ a' → b ≡ b' → c ≡ c' → connection a b c ≡ connection a' b' c'
-connection-same p q r = cc
-
 same-sound : (a b : Connection) → T (same_connection a b) → a ≡ b
-same-sound a b t =
-    let p = eqb→eq a.source b.source (and_left (eqb a.source b.source) _ t) in
-    let r = and_right (eqb a.source b.source) _ t in
-    let q = eqb→eq a.sink b.sink (and_left (eqb a.sink b.sink) _ r) in
-    let u = eqb→eq a.transfer b.transfer (and_right (eqb a.sink b.sink) _ r) in
-    connection-same p q u
+same-sound a b t = grind (arith, eqb→eq, and_left, and_right)
 
 same-own : (a : Connection) → T (same_connection a a)
 same-own a = search (tests, eqb_refl)
@@ -111,17 +100,17 @@ module _ (s t : Scene) (r : Reordered s t) where
 -- The one is accepted if the other is. `Reordered` reads the connection lists up to the length of the sources, so it is said that the
 -- three lists have one length
 module _ (limits : SceneLimits) (l : ComponentLists) (m m' : ConnectionLists) (r : Reordered (scene_of l m) (scene_of l m')) (aligned : ConnectionsAligned m') where
-  pub same-acceptance : (outputs : List Output) → check_scene limits l m outputs ≡ Accepted → check_scene limits l m' outputs ≡ Accepted
+  pub same-acceptance : (outputs : List Output) → check_scene limits l m outputs ≡ accepted → check_scene limits l m' outputs ≡ accepted
   same-acceptance outputs = acceptance-order limits l m m' outputs (perm (scene_of l m) (scene_of l m') r) aligned
 
   same_length : length m.sources ≡ length m'.sources
   same_length = sym (connections-length m) ∙ perm-length (perm (scene_of l m) (scene_of l m') r) ∙ connections-length m'
 
   -- by each of the two scene calls
-  pub same-describe : (l0 l1 l2 : List ℕ) → check_describe limits l m l0 l1 l2 ≡ Accepted → check_describe limits l m' l0 l1 l2 ≡ Accepted
+  pub same-describe : (l0 l1 l2 : List ℕ) → check_describe limits l m l0 l1 l2 ≡ accepted → check_describe limits l m' l0 l1 l2 ≡ accepted
   unfolding check_describe
   same-describe l0 l1 l2 e = rw (← same_length) (same-acceptance (describe_outputs (length l.ids) (length m.sources) l0 l1 l2) e)
 
-  pub same-assess : (l3 l4 l5 l6 l7 l8 : List ℕ) → check_assess limits l m l3 l4 l5 l6 l7 l8 ≡ Accepted → check_assess limits l m' l3 l4 l5 l6 l7 l8 ≡ Accepted
+  pub same-assess : (l3 l4 l5 l6 l7 l8 : List ℕ) → check_assess limits l m l3 l4 l5 l6 l7 l8 ≡ accepted → check_assess limits l m' l3 l4 l5 l6 l7 l8 ≡ accepted
   unfolding check_assess
   same-assess l3 l4 l5 l6 l7 l8 e = rw (← same_length) (same-acceptance (assess_outputs (length l.ids) (length m.sources) l3 l4 l5 l6 l7 l8) e)

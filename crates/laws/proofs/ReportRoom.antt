@@ -11,15 +11,16 @@ use lib.Dec.{eqb}
 use lib.ListN.{length, length-append, length-map}
 use Rattle.rules.specs.Lists.{keep}
 use Rattle.rules.specs.Bytes.{bytes, largest64, decimal}
+use Rattle.rules.specs.Codes.{refusal_code}
 use Rattle.rules.specs.Kinds.{repeater_code, comparator_code, piston_code}
 use Rattle.rules.specs.Scene.{Component, Scene, id_of, rising_ids, delay_at, edges}
 use Rattle.rules.specs.Graph.{Edge}
 use Rattle.rules.specs.Labels.{label}
 use Rattle.rules.specs.Reasons.{Reason, stateful_or_mechanical_device, locked_repeater, feedback, feedback_reason, own_reason, unequal_at, unequal_reason, unequal_reasons_by, unequal_reasons, temporal_reasons, reasons, scope, pattern}
 use Rattle.rules.specs.Projection.{compressed, first_edges, chain_from, before_last, last_of, flips, inverts_at, ProjectedEdge, projected_by, projected_along, projected}
-use Rattle.rules.specs.Refusals.{SceneLimits, scene_limits}
+use Rattle.rules.specs.Refusals.{accepted, SceneLimits, scene_limits}
 use Rattle.rules.specs.Report.{reason_line, label_lines, report, refusal_text, component_fields, connection_fields, check_read}
-use Rattle.rules.specs.declared.answers.Checked.TheVariants.{Accepted}
+use Rattle.rules.specs.declared.answers.Refusal.{Refusal}
 use Rattle.rules.proofs.Lists.{keep_out, flat_out, flat_append}
 use Rattle.rules.proofs.Counts.{count_most}
 use Rattle.rules.proofs.Permutations.{perm-mem}
@@ -32,13 +33,14 @@ use Rattle.rules.proofs.DecimalLength.{decimal-few}
 use Rattle.laws.proofs.Chains.{inner, chain-parts}
 use Rattle.laws.proofs.Projection.{first-edges-out, chain-ids}
 use Rattle.laws.proofs.Room.{edges_fit_lem, reasons-fit, feedback-fit, projected-fit, path-ids-fit}
+use Rattle.laws.proofs.RefusalNumbers.{kind-number}
 use Rattle.laws.proofs.ReadScenes.{fields-components, fields-connections}
 use Rattle.laws.proofs.ReportLines.{Bits64, Short, ReasonShort, ProjectedShort, UpTo, joined, line, flat-size, number-64, number-32, sum-capped, extreme-capped, scope-size, pattern-size, reason-line-size, loop-size, projected-size, label-lines-size}
 
 -- "A refusal prints two lines only"
-pub refusal-room : (number place : ℕ) → number ≤ 4294967295 → place ≤ largest64 → length (refusal_text number place) ≤ 1048576
+pub refusal-room : (r : Refusal) → r.place ≤ largest64 → length (refusal_text r) ≤ 1048576
 unfolding refusal_text
-refusal-room number place h k = omega (arith, (joined (line (bytes "refusal=") (number-32 number h)) (line (bytes "place=") (number-64 place k))).size)
+refusal-room r h = omega (arith, (joined (line (bytes "refusal=") (number-32 (refusal_code r.kind) (omega (arith, (kind-number r.kind).1)))) (line (bytes "place=") (number-64 r.place h))).size)
 
 -- The whole report
 
@@ -112,8 +114,7 @@ module _ (cs : List Component) (es : List Edge) (short : Short (map id_of cs)) w
     projected-short p m = let r = Memᴰ.of_map (projected_along cs es) (first_edges cs es) m in subst ProjectedShort r.2 (along-edge r.0 (first-edges-out cs es r.0 r.1).0)
       where
         inverted-digit : (b : Bool) → cond b 1 0 < 10
-        inverted-digit true = omega arith
-        inverted-digit false = omega arith
+        inverted-digit b = grind arith
 
         along-edge : (e : Edge) → Memᴰ e es → ProjectedShort (projected_along cs es e)
         along-edge e k = record {
@@ -141,10 +142,10 @@ module _ (cs : List Component) (es : List Edge) (short : Short (map id_of cs)) w
         omega (arith, all.size, projected-fit cs es listed distinct m h, path-ids-fit cs es listed distinct m h, feedback-fit cs es)
 
 -- So for an accepted scene whose ids have 64 bits
-module _ (limits : SceneLimits) (s : Scene) (accepted : check_read limits s ≡ Accepted) (short : (c : Component) → Memᴰ c s.components → c.id ≤ largest64) where
+module _ (limits : SceneLimits) (s : Scene) (accepts : check_read limits s ≡ accepted) (short : (c : Component) → Memᴰ c s.components → c.id ≤ largest64) where
   facts : AcceptedScene limits (component_fields s.components) (connection_fields s.connections) []
   unfolding check_read
-  facts = accepted→ limits (component_fields s.components) (connection_fields s.connections) [] accepted
+  facts = accepted→ limits (component_fields s.components) (connection_fields s.connections) [] accepts
 
   short-ids : Short (map id_of s.components)
   short-ids v m = let r = Memᴰ.of_map id_of s.components m in subst Bits64 r.2 (short r.0 r.1)
@@ -165,6 +166,6 @@ module _ (limits : SceneLimits) (s : Scene) (accepted : check_read limits s ≡ 
   report-room-within h k = omega (arith, accepted-report-length)
 
 -- no report is cut
-pub report-room : (s : Scene) → check_read scene_limits s ≡ Accepted → ((c : Component) → Memᴰ c s.components → c.id ≤ largest64)
+pub report-room : (s : Scene) → check_read scene_limits s ≡ accepted → ((c : Component) → Memᴰ c s.components → c.id ≤ largest64)
     → length (report s.components (edges s)) ≤ 1048576
-report-room s accepted short = report-room-within scene_limits s accepted short (omega arith) (omega arith)
+report-room s accepts short = report-room-within scene_limits s accepts short (omega arith) (omega arith)

@@ -15,9 +15,8 @@ use Rattle.rules.specs.Graph.{Edge, sink_of, strongly_connected}
 use Rattle.rules.specs.Paths.{delay_sum, total, PathTo}
 use Rattle.rules.specs.Reasons.{in_feedback, feedback, feedback_reason, own_reason, unequal_at, unequal_reason, unequal_reasons_by, unequal_reasons, temporal_reasons, reasons}
 use Rattle.rules.specs.Projection.{marks, first_edges, chain_from, before_last, projected, path_ids}
-use Rattle.rules.specs.Refusals.{SceneLimits, Output, check_scene}
+use Rattle.rules.specs.Refusals.{accepted, SceneLimits, Output, check_scene}
 use Rattle.rules.specs.Describe.{timed_edge, timed_edges, temporal_device, device_components, devices, connection_evidence, device_evidence, evidence}
-use Rattle.rules.specs.declared.answers.Checked.TheVariants.{Accepted}
 use Rattle.rules.specs.Labels.{label, labels}
 use Rattle.rules.proofs.Distinct.{pigeon}
 use Rattle.rules.proofs.Permutations.{keep-length, perm-length}
@@ -139,7 +138,7 @@ module _ (cs : List Component) (es : List Edge) where
       projected-plain h = omega (arith, projected-total, capped-total (delay_at cs) (before_last (chain_from cs es e)))
 
 -- So for an accepted scene of N components and M connections
-module _ (limits : SceneLimits) (l : ComponentLists) (m : ConnectionLists) (outputs : List Output) (accepted : check_scene limits l m outputs ≡ Accepted) where
+module _ (limits : SceneLimits) (l : ComponentLists) (m : ConnectionLists) (outputs : List Output) (accepts : check_scene limits l m outputs ≡ accepted) where
   abbrev components : List Component
   components = components_of l
 
@@ -147,7 +146,7 @@ module _ (limits : SceneLimits) (l : ComponentLists) (m : ConnectionLists) (outp
   joins = edges_of (connections_of m)
 
   facts : AcceptedScene limits l m outputs
-  facts = accepted→ limits l m outputs accepted
+  facts = accepted→ limits l m outputs accepts
 
   pub accepted-projected : length (projected components joins) ≤ length m.sources
   accepted-projected = projected-fit components joins (edge-ends facts) (accepted-ids facts) (length m.sources) (omega (arith, edges_fit_lem components (connections_of m), connections-length m))

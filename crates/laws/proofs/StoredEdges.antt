@@ -3,13 +3,15 @@ use mathlib.Core.List.{List, [], map}
 use mathlib.Core.Path.{◌≡◌, ap, ◌∙◌}
 use Prim.Native.Nat.{ℕ, ◌<◌}
 use native.Mathlib.Omega.{arith}
+use Rattle.std.specs.Prelude.{Result}
 use lib.ListN.{length, get_or, length-map}
 use Rattle.rules.specs.Lists.{indices, written}
 use Rattle.rules.specs.Scene.{Scene, edges}
 use Rattle.rules.specs.Projection.{ProjectedEdge, projected, projected_path}
+use Rattle.rules.specs.Refusals.{accepted}
 use Rattle.rules.specs.Assess.{AssessLists, stored_edge, AssessedBy}
-use Rattle.rules.specs.declared.answers.Checked.TheVariants.{Accepted}
-use Rattle.rules.specs.declared.answers.SceneAnswer.{SceneAnswer}
+use Rattle.rules.specs.declared.answers.Assessment.{Assessment}
+use Rattle.rules.specs.declared.answers.Refusal.{Refusal}
 use Rattle.rules.proofs.Indices.{map_at, made-same}
 use Rattle.rules.proofs.Written.{written_at}
 use Rattle.laws.proofs.PathParts.{path-back}
@@ -27,7 +29,7 @@ none : ProjectedEdge
 none = record { source = 0; sink = 0; inverted = 0; minimum = 0; maximum = 0; path = [] }
 
 -- what was written is what is read
-module _ (s : Scene) (old new : AssessLists) {answer : SceneAnswer} (call : AssessedBy Accepted s old new answer) where
+module _ (s : Scene) (old new : AssessLists) {answer : Result Assessment Refusal} (call : AssessedBy accepted s old new answer) where
   abbrev ps : List ProjectedEdge
   ps = projected s.components (edges s)
 
@@ -37,12 +39,14 @@ module _ (s : Scene) (old new : AssessLists) {answer : SceneAnswer} (call : Asse
     where
       back : (k : ℕ) → k < length ps → stored_edge new k ≡ get_or ps k none
       back k h =
-          let a = field_back (λ p. p.source) new.projected_sources old.projected_sources ps none 0 k call.projected_sources h in
-          let b = field_back (λ p. p.sink) new.projected_sinks old.projected_sinks ps none 0 k call.projected_sinks h in
-          let c = field_back (λ p. p.inverted) new.projected_inverted old.projected_inverted ps none 0 k call.projected_inverted h in
-          let d = field_back (λ p. p.minimum) new.projected_minimums old.projected_minimums ps none 0 k call.projected_minimums h in
-          let e = field_back (λ p. p.maximum) new.projected_maximums old.projected_maximums ps none 0 k call.projected_maximums h in
-          let f : projected_path new.path_ids new.projected_starts new.projected_lengths k ≡ (get_or ps k none).path =
+          let path : projected_path new.path_ids new.projected_starts new.projected_lengths k ≡ (get_or ps k none).path =
           rw (call.path_ids, call.projected_starts, call.projected_lengths)
           (path-back old.path_ids old.projected_starts old.projected_lengths ps k h ∙ map_at (λ p. p.path) ps k none [] h) in
-          rw (a, b, c, d, e, f)
+          rw (
+            field_back (λ p. p.source) _ _ ps none 0 k call.projected_sources h,
+            field_back (λ p. p.sink) _ _ ps none 0 k call.projected_sinks h,
+            field_back (λ p. p.inverted) _ _ ps none 0 k call.projected_inverted h,
+            field_back (λ p. p.minimum) _ _ ps none 0 k call.projected_minimums h,
+            field_back (λ p. p.maximum) _ _ ps none 0 k call.projected_maximums h,
+            path,
+          )

@@ -6,62 +6,55 @@ use Prim.Native.Nat.{ℕ, ◌≤◌}
 use native.Mathlib.Omega.{arith}
 use lib.Dec.{T}
 use lib.ListN.{length, get_or, replicate}
+use Rattle.std.specs.Prelude.{Result, Ok, Err}
 use Rattle.rules.specs.Lists.{sum}
-use Rattle.rules.specs.Verdicts.{Finding, FindingLists, finding_lists, finding_lengths, FindingsListed}
-use Rattle.rules.specs.Traces.{TraceLimits, trace_limits, TraceLists, check_trace, trace_findings, transient_numbers, AssessedBy, TraceCall}
+use Rattle.rules.specs.Refusals.{Checked}
+use Rattle.rules.specs.Verdicts.{Finding, FindingLists, finding_lengths, FindingsListed}
+use Rattle.rules.specs.Traces.{TraceLimits, trace_limits, TraceLists, check_trace, trace_findings, transient_numbers, transient_tallies, AssessedBy, TraceCall}
 use Rattle.rules.specs.Recording.{TransientRecord, record_false, check_recording, record_after, RecordedBy, RecordCall}
-use Rattle.rules.specs.declared.answers.Checked.{Checked}
-use Rattle.rules.specs.declared.answers.Checked.TheVariants.{Accepted, Refused}
-use Rattle.rules.specs.declared.transient.TransientAnswer.TheVariants as Answer
+use Rattle.rules.specs.declared.answers.Refusal.{Refusal}
 use Rattle.rules.specs.declared.transient.TransientAssessment.{TransientAssessment}
 use Rattle.rules.proofs.TraceAcceptance.{RecordTrue, true→not-false}
-use Rattle.rules.proofs.FirstRefusal.{not-both}
 use Rattle.laws.proofs.TraceRoom.{tallies-sum, record-keeps-tallies, record-after-true}
-
--- the lists of list 9, one by one
-abbrev each : FindingLists → FindingLists
-each o =
-    finding_lists o.components o.polarities o.units o.start_ticks o.end_ticks o.widths o.steady o.baselines o.starts o.ends o.verdicts
-    o.rationales
 
 -- The trace call, by what its checks find
 
 untouched : {old new : FindingLists} {fs : List Finding} → FindingsListed (λ a b. a) fs old new → new ≡ old
-untouched {old} {new} l = let e : each new ≡ each old = cc in e
+untouched l = grind arith
 
-unassessed-by : (c : Checked) {start n p : ℕ} {t : TraceLists} {old new : FindingLists} {r : TransientAssessment} → AssessedBy c start t old new r → r.answer ≡ Answer.Refused n p
-    → (c ≡ Refused n p) × (new ≡ old) × (r.tallies ≡ replicate 5 0)
-unassessed-by Accepted b e = let z : ◌≡◌ {A = ℕ} 0 1 = cc in absurd (omega arith)
-unassessed-by (Refused m q) b e = (cc, untouched b.listed, ap (λ x. x.tallies) b.assessed)
+unassessed-by : (c : Checked) {start : ℕ} {t : TraceLists} {old new : FindingLists} {answer : Result TransientAssessment Refusal} {r : Refusal} → AssessedBy c start t old new answer → answer ≡ Err r
+    → (c ≡ Err r) × (new ≡ old) × (transient_tallies answer ≡ replicate 5 0)
+unassessed-by (Ok u) b e = cc
+unassessed-by (Err s) b e = (cc, untouched b.listed, b.tallied)
 
-tallied-by : (c : Checked) {start : ℕ} {t : TraceLists} {old new : FindingLists} {r : TransientAssessment} → AssessedBy c start t old new r
-    → sum r.tallies ≡ get_or (transient_numbers r.answer) 2 0
+tallied-by : (c : Checked) {start : ℕ} {t : TraceLists} {old new : FindingLists} {answer : Result TransientAssessment Refusal} → AssessedBy c start t old new answer
+    → sum (transient_tallies answer) ≡ get_or (transient_numbers answer) 2 0
 unfolding sum
-tallied-by Accepted {t = t} b = ap (λ x. sum x.tallies) b.assessed ∙ tallies-sum (trace_findings t) ∙ sym (ap (λ l. get_or l 2 0) b.numbered)
-tallied-by (Refused m q) b = ap (λ x. sum x.tallies) b.assessed ∙ sym (ap (λ l. get_or l 2 0) b.numbered)
+tallied-by (Ok u) {t = t} b = ap sum b.tallied ∙ tallies-sum (trace_findings t) ∙ sym (ap (λ l. get_or l 2 0) b.numbered)
+tallied-by (Err s) b = ap sum b.tallied ∙ sym (ap (λ l. get_or l 2 0) b.numbered)
 
-module _ (limits : TraceLimits) (t : TraceLists) (old new : FindingLists) (r : TransientAssessment) (call : TraceCall limits t old new r) where
+module _ (limits : TraceLimits) (t : TraceLists) (old new : FindingLists) (answer : Result TransientAssessment Refusal) (call : TraceCall limits t old new answer) where
   -- a refusal is the one that the checks find; every list is as it was, and nothing is tallied
-  pub trace-refused : (number place : ℕ) → r.answer ≡ Answer.Refused number place → (check_trace limits t (finding_lengths old) ≡ Refused number place) × (new ≡ old) × (r.tallies ≡ replicate 5 0)
-  trace-refused number place e = unassessed-by (check_trace limits t (finding_lengths old)) call e
+  pub trace-refused : (r : Refusal) → answer ≡ Err r → (check_trace limits t (finding_lengths old) ≡ Err r) × (new ≡ old) × (transient_tallies answer ≡ replicate 5 0)
+  trace-refused r e = unassessed-by (check_trace limits t (finding_lengths old)) call e
 
   -- the tallies sum to the findings that the answer's numbers tell
-  pub trace-tallied : sum r.tallies ≡ get_or (transient_numbers r.answer) 2 0
+  pub trace-tallied : sum (transient_tallies answer) ≡ get_or (transient_numbers answer) 2 0
   trace-tallied = tallied-by (check_trace limits t (finding_lengths old)) call
 
 -- Recording, by what its checks find
 
-unrecorded-by : (c : Checked) {n p : ℕ} {r then : TransientRecord} {t : TraceLists} {old new : FindingLists} {numbers : List ℕ} → RecordedBy c r t old new numbers then → c ≡ Refused n p → (then ≡ r) × (new ≡ old)
-unrecorded-by Accepted b e = absurd (not-both refl e)
-unrecorded-by (Refused m q) b e = (b.recorded, untouched b.listed)
+unrecorded-by : (c : Checked) {e : Refusal} {r then : TransientRecord} {t : TraceLists} {old new : FindingLists} {numbers : List ℕ} → RecordedBy c r t old new numbers then → c ≡ Err e → (then ≡ r) × (new ≡ old)
+unrecorded-by (Ok u) b q = cc
+unrecorded-by (Err s) b q = (b.recorded, untouched b.listed)
 
-pub record-refused : (limits : TraceLimits) (r then : TransientRecord) (t : TraceLists) (old new : FindingLists) (numbers : List ℕ) (number place : ℕ)
-    → RecordCall limits r t old new numbers then → check_recording limits r t (finding_lengths old) ≡ Refused number place → (then ≡ r) × (new ≡ old)
-record-refused limits r then t old new numbers number place call e = unrecorded-by (check_recording limits r t (finding_lengths old)) call e
+pub record-refused : (limits : TraceLimits) (r then : TransientRecord) (t : TraceLists) (old new : FindingLists) (numbers : List ℕ) (e : Refusal)
+    → RecordCall limits r t old new numbers then → check_recording limits r t (finding_lengths old) ≡ Err e → (then ≡ r) × (new ≡ old)
+record-refused limits r then t old new numbers e call q = unrecorded-by (check_recording limits r t (finding_lengths old)) call q
 
 changed-by : (c : Checked) {r then : TransientRecord} {t : TraceLists} {old new : FindingLists} {numbers : List ℕ} → RecordedBy c r t old new numbers then → (get_or numbers 0 0 ≡ 0 → ⊥) → (then ≡ r) × (new ≡ old)
-changed-by Accepted b h = absurd (h (ap (λ l. get_or l 0 0) b.numbered))
-changed-by (Refused m q) b h = (b.recorded, untouched b.listed)
+changed-by (Ok u) b h = absurd (h (ap (λ l. get_or l 0 0) b.numbered))
+changed-by (Err e) b h = (b.recorded, untouched b.listed)
 
 -- where the first number is a refusal's, the record and every list are as they were
 pub record-unchanged : (limits : TraceLimits) (r then : TransientRecord) (t : TraceLists) (old new : FindingLists) (numbers : List ℕ)
@@ -92,9 +85,9 @@ module _ (limits : TraceLimits) (many : limits.events ≤ limits.findings_each) 
   next-sound r then t old new numbers s call = go (check_recording limits r t (finding_lengths old)) refl call.recorded
     where
       go : (c : Checked) → check_recording limits r t (finding_lengths old) ≡ c → then ≡ record_after c r t → Sound limits then
-      go Accepted e q =
+      go (Ok u) e q =
           subst (Sound limits) (sym q) (record { five = record-keeps-tallies r t; true_record = record-after-true limits r t (finding_lengths old) e s.five many })
-      go (Refused n p) e q = subst (Sound limits) (sym q) s
+      go (Err refusal) e q = subst (Sound limits) (sym q) s
 
   made-sound : {r : TransientRecord} → Recordings limits r → Sound limits r
   made-sound fresh = fresh-sound limits

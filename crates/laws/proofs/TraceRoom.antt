@@ -1,5 +1,5 @@
 -- An accepted trace call has room for its findings, and recording a trace keeps a record true. Assumes nothing.
-use mathlib.Core.Bool.{Bool, true, false, cond}
+use mathlib.Core.Bool.{true, false}
 use mathlib.Core.List.Memᴰ
 use mathlib.Core.List.{List, [], ◌∷◌, map, flat_map, Memᴰ}
 use mathlib.Core.Path.{◌≡◌, refl, sym, ap, ap₂, ◌∙◌}
@@ -10,14 +10,13 @@ use lib.Dec.{T, eqb, eqb→eq, eqb_refl}
 use lib.ListN.{length, get_or, length-map, length-append}
 use Rattle.rules.specs.Lists.{any, keep, count, rising, indices, sum, Distinct}
 use Rattle.rules.specs.Codes.{unit_of, verdict_code}
-use Rattle.rules.specs.Pulses.{Event, Pulse, events_of, is_pulse, pulse_of, pulses_in, pulses, of_component, event_components}
+use Rattle.rules.specs.Refusals.{accepted}
+use Rattle.rules.specs.Pulses.{Event, Pulse, events_of, pulses_in, pulses, of_component, event_components}
 use Rattle.rules.specs.Verdicts.{Finding, finding_of, findings, finding_verdict, tally, tallies, contracts_of}
 use Rattle.rules.specs.Traces.{TraceLimits, TraceLists, event_count, check_trace, trace_findings}
 use Rattle.rules.specs.Recording.{TransientRecord, record_false, check_recording, add_tallies, grown, record_after}
-use Rattle.rules.specs.declared.answers.Checked.TheVariants.{Accepted}
 use Rattle.rules.specs.declared.transient.TraceTimeUnit.{TraceTimeUnit}
 use Rattle.rules.specs.declared.transient.TransientVerdict.{TransientVerdict}
-use Rattle.rules.specs.declared.transient.TransientVerdict.TheVariants.{PulseObserved, TransientDeviation, HazardCandidate, HazardConfirmed, IntentionalPulse}
 use Rattle.rules.proofs.Lists.{any-in, any_out}
 use Rattle.rules.proofs.Counts.{count-or, once-distinct, count_none, count_under, count-every}
 use Rattle.rules.proofs.Permutations.{keep-length}
@@ -59,12 +58,7 @@ unfolding pulses_in
 pulses-in-fit unit [] = omega arith
 pulses-in-fit unit (a ∷ []) = omega arith
 pulses-in-fit unit (a ∷ b ∷ []) = omega arith
-pulses-in-fit unit (a ∷ b ∷ c ∷ es) = go (is_pulse a b c) (pulses-in-fit unit (b ∷ c ∷ es))
-  where
-    go : (p : Bool) → length (pulses_in unit (b ∷ c ∷ es)) ≤ length (b ∷ c ∷ es)
-        → length (cond p (pulse_of unit a b c ∷ pulses_in unit (b ∷ c ∷ es)) (pulses_in unit (b ∷ c ∷ es))) ≤ length (a ∷ b ∷ c ∷ es)
-    go true h = omega arith
-    go false h = omega arith
+pulses-in-fit unit (a ∷ b ∷ c ∷ es) = grind (arith, pulses-in-fit unit (b ∷ c ∷ es))
 
 module _ (unit : TraceTimeUnit) (es : List Event) where
   abbrev pulses_of : ℕ → List Pulse
@@ -97,21 +91,17 @@ findings-fit t = omega (
 )
 
 -- an accepted trace call has room for its findings
-pub trace-room : (limits : TraceLimits) (t : TraceLists) (lengths : List ℕ) → check_trace limits t lengths ≡ Accepted → Fits (length (trace_findings t)) lengths
+pub trace-room : (limits : TraceLimits) (t : TraceLists) (lengths : List ℕ) → check_trace limits t lengths ≡ accepted → Fits (length (trace_findings t)) lengths
 trace-room limits t lengths e n k = omega (arith, findings-fit t, (checked→trace limits t lengths e).lists_long n k)
 
 -- an accepted recording has room for its findings after those held
-pub recording-room : (limits : TraceLimits) (r : TransientRecord) (t : TraceLists) (lengths : List ℕ) → check_recording limits r t lengths ≡ Accepted
+pub recording-room : (limits : TraceLimits) (r : TransientRecord) (t : TraceLists) (lengths : List ℕ) → check_recording limits r t lengths ≡ accepted
     → Fits (r.findings + length (trace_findings t)) lengths
 recording-room limits r t lengths e n k = omega (arith, findings-fit t, (checked→recording limits r t lengths e).trace_accepted.lists_long n k)
 
 -- there are five verdicts
 pub verdict-below : (v : TransientVerdict) → verdict_code v < 5
-verdict-below PulseObserved = omega arith
-verdict-below TransientDeviation = omega arith
-verdict-below HazardCandidate = omega arith
-verdict-below HazardConfirmed = omega arith
-verdict-below IntentionalPulse = omega arith
+verdict-below v = grind arith
 
 -- every finding is tallied once
 pub tallies-sum : (fs : List Finding) → sum (tallies fs) ≡ length fs
@@ -136,16 +126,16 @@ unfolding tallies
 tallies-length fs = made-length (tally fs) 5
 
 -- recording keeps the five tallies
-pub record-keeps-tallies : (r : TransientRecord) (t : TraceLists) → length (record_after Accepted r t).tallies ≡ 5
+pub record-keeps-tallies : (r : TransientRecord) (t : TraceLists) → length (record_after accepted r t).tallies ≡ 5
 unfolding grown add_tallies
 record-keeps-tallies r t = made-length (λ k. get_or r.tallies k 0 + get_or (tallies (trace_findings t)) k 0) 5
 
-module _ (limits : TraceLimits) (r : TransientRecord) (t : TraceLists) (lengths : List ℕ) (accepted : check_recording limits r t lengths ≡ Accepted) (five : length r.tallies ≡ 5) (each : limits.events ≤ limits.findings_each) where
+module _ (limits : TraceLimits) (r : TransientRecord) (t : TraceLists) (lengths : List ℕ) (accepts : check_recording limits r t lengths ≡ accepted) (five : length r.tallies ≡ 5) (each : limits.events ≤ limits.findings_each) where
   -- the tallies of the record after an accepted recording sum to its findings, and these are no more than its traces can have
-  pub record-after-true : RecordTrue limits (record_after Accepted r t)
+  pub record-after-true : RecordTrue limits (record_after accepted r t)
   unfolding grown
   record-after-true =
-      let a = checked→recording limits r t lengths accepted in
+      let a = checked→recording limits r t lengths accepts in
       let fs = trace_findings t in
       record {
         tallies_counted = added-sum r.tallies (tallies fs) five (tallies-length fs) ∙ ap₂ (λ m n. m + n) a.record_true.tallies_counted (tallies-sum fs);
@@ -153,5 +143,5 @@ module _ (limits : TraceLimits) (r : TransientRecord) (t : TraceLists) (lengths 
       }
 
   -- so a recording that is accepted leaves a record that is not false; that it was not false before, acceptance says
-  pub record-stays-true : T (record_false limits (record_after Accepted r t)) → ⊥
-  record-stays-true = true→not-false limits (record_after Accepted r t) record-after-true
+  pub record-stays-true : T (record_false limits (record_after accepted r t)) → ⊥
+  record-stays-true = true→not-false limits (record_after accepted r t) record-after-true

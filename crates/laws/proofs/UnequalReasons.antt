@@ -8,8 +8,7 @@ use Rattle.rules.specs.Scene.{Component, ComponentLists, ConnectionLists, compon
 use Rattle.rules.specs.Graph.{Edge}
 use Rattle.rules.specs.Paths.{delay_sum, total, PathTo, IsExtreme}
 use Rattle.rules.specs.Reasons.{unequal_reconvergent_delay, reasons, UnequalDelay}
-use Rattle.rules.specs.Refusals.{SceneLimits, Output, check_scene}
-use Rattle.rules.specs.declared.answers.Checked.TheVariants.{Accepted}
+use Rattle.rules.specs.Refusals.{accepted, SceneLimits, Output, check_scene}
 use Rattle.rules.proofs.ReasonLaws.{unequal→, →unequal}
 use Rattle.laws.proofs.Room.{accepted-path-plain}
 
@@ -33,7 +32,7 @@ unequal-same h u =
       differ = u.differ;
     }
 
-module _ (limits : SceneLimits) (l : ComponentLists) (m : ConnectionLists) (outputs : List Output) (accepted : check_scene limits l m outputs ≡ Accepted) (room : (limits.components - 1) * 255 ≤ cap) where
+module _ (limits : SceneLimits) (l : ComponentLists) (m : ConnectionLists) (outputs : List Output) (accepts : check_scene limits l m outputs ≡ accepted) (room : (limits.components - 1) * 255 ≤ cap) where
   abbrev cs : List Component
   cs = components_of l
 
@@ -41,7 +40,7 @@ module _ (limits : SceneLimits) (l : ComponentLists) (m : ConnectionLists) (outp
   es = edges_of (connections_of m)
 
   plain : (v : ℕ) (p : List ℕ) → PathTo es v p → delay_sum (delay_at cs) p ≡ total (delay_at cs) p
-  plain v p P = accepted-path-plain limits l m outputs accepted room P
+  plain v p P = accepted-path-plain limits l m outputs accepts room P
 
   pub unequal-reason→ : (v low high : ℕ) → Memᴰ (unequal_reconvergent_delay v low high) (reasons cs es) → UnequalDelay cs es (total (delay_at cs)) (total (delay_at cs)) v low high
   unequal-reason→ v low high n = unequal-same (plain v) (unequal→ cs es v low high n)

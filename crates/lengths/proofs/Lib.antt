@@ -1,3 +1,2 @@
--- The loops over lengths, step by step:
-pub mod Alike
-pub mod Least
+-- What the iterators over lengths answer:
+pub mod Iterated

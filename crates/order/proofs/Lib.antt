@@ -1,6 +1,5 @@
 -- Facts that the proofs of the functions share:
-pub mod Merging
-pub mod Halves
+pub mod Sorting
 pub mod Whole
 pub mod Searching
 -- what the contracts give a caller:

@@ -1,52 +1,57 @@
--- Halving keeps the places of a key in between. Among the ordered positions the first place of a key has its first position, and among keys
--- that rise it is that position. Assumes nothing.
+-- Among the ordered positions the first place whose key is not below has the first position of the key, if any has it, and among keys that
+-- rise it is that position. Assumes nothing.
+use mathlib.Core.Bool.{Bool, true, false}
 use mathlib.Core.List.{List}
-use mathlib.Core.Path.{◌≡◌, sym, ap, subst, ◌∙◌}
+use mathlib.Core.Path.{◌≡◌, refl, sym, ap, ◌∙◌}
 use mathlib.Core.Logic.{⊎_elim}
-use Prim.Native.Nat.{ℕ, zero, suc, ◌+◌, ◌≤◌, ◌<◌}
+use Prim.Native.Nat.{ℕ, zero, suc, ◌≤◌, ◌<◌}
 use native.Mathlib.Omega.{arith}
+use denote.Param.Members.{Mut}
+use denote.Ref.{Bor}
+use lib.Dec.{eqb, ltb}
 use lib.ListN.{length, get_or}
+use Rattle.std.specs.Prelude.{Some, None, Result, Ok, Err}
+use Rattle.std.specs.Result.{result_ok, IfOk}
+use Rattle.std.specs.Bool.{then_some}
+use Rattle.std.specs.Fn.{Called, ComputesKey}
+use Rattle.std.specs.List.Sorted.{IsSearchInRange, IsBinarySearchResult, IsNonDecreasingBy, IsPartitionedBy, IsPartitionPoint}
+use Rattle.std.specs.List.{HoldsAt}
+use Rattle.std.specs.Ordering.{nat_cmp}
+use Rattle.std.proofs.Common.{Equal}
+use Rattle.std.proofs.lemmas.Map.Lookups.{exact_unsigned}
+use Rattle.std.proofs.lemmas.Bool.{eqb-true, eqb-false, ltb-true, ltb-false}
+use Rattle.std.proofs.lemmas.List.Sorted.{IsPartitionPoint-from_clause, IsPartitionedBy-ltb, IsNonDecreasingBy-from_default, searched}
 use Rattle.rules.specs.Ordered.{key_at, ordered, Rises}
-use Rattle.rules.specs.declared.positions.Found.TheVariants.{At, Missing}
 use Rattle.rules.proofs.Sums.{order}
 use Rattle.rules.proofs.Ordering.{ordered-length, ordered-rise, ordered-below, place_of, earlier-place, first→position, none→missing}
-use Rattle.order.specs.Searched.{key_of, NotFalling, Searching, Searched, SearchedRising}
+use Rattle.order.specs.Searched.{Searched, SearchedRising}
 
-module _ (at : ℕ → ℕ) (n key : ℕ) where
-  pub searching-all : Searching at n key 0 n
-  searching-all = record { narrow = omega arith; inside = omega arith; below = λ u k h. absurd (omega arith); above = λ u k h b. absurd (omega arith) }
+-- the key at a place of a row of positions
+abbrev pub key_of : List ℕ → List ℕ → ℕ → ℕ
+key_of keys row k = key_at keys (get_or row k 0)
 
-  module _ (low high : ℕ) (s : Searching at n key low high) (middle : ℕ) where
-    pub searching-after : low ≤ middle → middle < high → at middle < key → Searching at n key (middle + 1) high
-    searching-after h b l = record {
-      narrow = omega arith;
-      inside = s.inside;
-      below = λ u k g. omega (arith, u k middle (omega arith) (omega (arith, s.inside)));
-      above = s.above;
-    }
+-- among the ordered positions, those before a place have keys below the one looked for, and those from it on don't
+pub record SplitAt (keys row : List ℕ) (key place : ℕ) : Type 0 where
+  pub inside : place ≤ length row
+  pub below : row ≡ ordered keys → (k : ℕ) → k < place → key_of keys row k < key
+  pub above : row ≡ ordered keys → (k : ℕ) → place ≤ k → k < length row → key ≤ key_of keys row k
 
-    pub searching-before : low ≤ middle → middle < high → key ≤ at middle → Searching at n key low middle
-    searching-before h b l = record {
-      narrow = h;
-      inside = omega (arith, s.inside);
-      below = s.below;
-      above = λ u k g d. omega (arith, u middle k g d);
-    }
-
-  pub searching-done : (low high : ℕ) → Searching at n key low high → high ≤ low → Searching at n key low low
-  searching-done low high s h = let e : high ≡ low = omega (arith, s.narrow) in subst (Searching at n key low) e s
-
-  -- where a place has the key, so has the first whose key is not below
-  place-has : (place : ℕ) → Searching at n key place place → NotFalling at n → (k : ℕ) → k < n → at k ≡ key → (place < n) × (at place ≡ key)
-  place-has place s u k h t =
-      let g : place ≤ k = ⊎_elim (λ g. g) (λ g. absurd (omega (arith, s.below u k g))) (order place k) in
-      let b : place < n = omega arith in
-      (b, omega (arith, u place k g h, s.above u place (omega arith) b))
-
--- Among ordered positions
 module _ (keys row : List ℕ) (key : ℕ) where
-  rise : row ≡ ordered keys → NotFalling (key_of keys row) (length row)
-  rise e j k h b = rw e (ordered-rise keys j k h (omega (arith, ap length e, ordered-length keys)))
+  rise : row ≡ ordered keys → IsNonDecreasingBy (key_at keys) row
+  rise e = IsNonDecreasingBy-from_default (key_at keys) row 0 (λ i j h b. rw e (ordered-rise keys i j h (omega (arith, ap length e, ordered-length keys))))
+
+  pub split-point : {F : Type 0} {g : Mut F (Bor ℕ × Unit {0}) Bool} {f : F} (place : ℕ) → place ≤ length row
+      → ((q : ℕ → Bool) → ComputesKey g q f → IsPartitionedBy q row → IsPartitionPoint (λ y. q y ≡ true) (λ y. q y ≡ false) row place)
+      → ((a : Bor ℕ × Unit {0}) (r : Bool) (f' : F) → Called g f a r f' → (r ≡ ltb (key_at keys a.0.now) key) × (f' ≡ f))
+      → SplitAt keys row key place
+  split-point place h point calls = record {
+    inside = h;
+    below = λ e k b. ltb-true _ _ ((at e).0 k 0 (omega arith) b);
+    above = λ e k b c. ltb-false _ _ ((at e).1 k 0 b c);
+  }
+    where
+      at : row ≡ ordered keys → IsPartitionPoint (λ y. ltb (key_at keys y) key ≡ true) (λ y. ltb (key_at keys y) key ≡ false) row place
+      at e = IsPartitionPoint-from_clause (λ y. ltb (key_at keys y) key) row place point (IsPartitionedBy-ltb (key_at keys) row key (rise e)) calls
 
   -- a position that has the key stands at a place
   row-place : row ≡ ordered keys → (q : ℕ) → q < length keys → key_at keys q ≡ key → (k : ℕ) × (k < length row) × (get_or row k 0 ≡ q) × (key_of keys row k ≡ key)
@@ -59,10 +64,17 @@ module _ (keys row : List ℕ) (key : ℕ) where
   row-earlier : row ≡ ordered keys → (j k : ℕ) → j < length row → k < length row → key_of keys row j ≡ key_of keys row k → get_or row j 0 < get_or row k 0 → j < k
   row-earlier e j k = rw e (λ a b. earlier-place keys j k (omega (arith, ordered-length keys)) (omega (arith, ordered-length keys)))
 
-  module _ (place : ℕ) (s : Searching (key_of keys row) (length row) key place place) where
-    -- so the first place that has the key has its first position
-    pub searched-at : place < length row → get_or row place 0 < length keys → key_of keys row place ≡ key → Searched keys row key (At (get_or row place 0))
-    searched-at h b t = record {
+  module _ (place : ℕ) (s : SplitAt keys row key place) where
+    -- so where a place has the key, so has the first whose key is not below
+    place-has : (e : row ≡ ordered keys) (k : ℕ) → k < length row → key_of keys row k ≡ key → (place < length row) × (key_of keys row place ≡ key)
+    place-has e k h t =
+        let g : place ≤ k = ⊎_elim (λ g. g) (λ g. absurd (omega (arith, s.below e k g))) (order place k) in
+        let b : place < length row = omega arith in
+        let up = rise e place k 0 g h in
+        (b, omega (arith, s.above e place (omega arith) b))
+
+    found : place < length row → get_or row place 0 < length keys → key_of keys row place ≡ key → Searched keys row key (Some (get_or row place 0))
+    found h b t = record {
       has_key = λ p e. let same : get_or row place 0 ≡ p = cc in (omega arith, cc);
       first = λ e. sym (first→position keys key (get_or row place 0) (record { inside = b; has = t; none_earlier = earlier e }));
     }
@@ -70,40 +82,56 @@ module _ (keys row : List ℕ) (key : ℕ) where
         earlier : row ≡ ordered keys → (q : ℕ) → q < get_or row place 0 → key_at keys q ≡ key → ⊥
         earlier e q g u =
             let r = row-place e q (omega arith) u in
-            omega (arith, s.below (rise e) r.0 (row-earlier e r.0 place r.1 h (r.3 ∙ sym t) (omega (arith, r.2))), r.3)
+            omega (arith, s.below e r.0 (row-earlier e r.0 place r.1 h (r.3 ∙ sym t) (omega (arith, r.2))), r.3)
 
-    -- and there is none where the place does not have the key
-    pub searched-missing : (place < length row → get_or row place 0 < length keys → key_of keys row place ≡ key → ⊥) → Searched keys row key Missing
+    -- there is none where the place does not have the key
+    pub searched-missing : (place < length row → get_or row place 0 < length keys → key_of keys row place ≡ key → ⊥) → Searched keys row key None
     searched-missing n = record {
-      has_key = λ p e. let z : ◌≡◌ {A = ℕ} 0 1 = cc in absurd (omega arith);
+      has_key = λ p e. cc;
       first = λ e. sym (none→missing keys key (none e));
     }
       where
         none : row ≡ ordered keys → (q : ℕ) → q < length keys → key_at keys q ≡ key → ⊥
         none e q h t =
             let r = row-place e q h t in
-            let p = place-has (key_of keys row) (length row) key place s (rise e) r.0 r.1 r.3 in
+            let p = place-has e r.0 r.1 r.3 in
             let b : place < length keys = omega (arith, p.0, ap length e, ordered-length keys) in
             n p.0 (rw e (ordered-below keys place b)) p.1
 
+    -- and where it has a key, the answer is by that
+    pub searched-at : place < length row → get_or row place 0 < length keys → (x : ℕ) → x ≡ key_of keys row place → Searched keys row key (then_some (eqb x key) (get_or row place 0))
+    searched-at h b x e = go (eqb x key) refl
+      where
+        go : (c : Bool) → eqb x key ≡ c → Searched keys row key (then_some c (get_or row place 0))
+        go true t = found h b (sym e ∙ eqb-true x key t)
+        go false t = searched-missing (λ h b k. eqb-false x key t (e ∙ k))
+
 -- Among keys that rise
-module _ (keys : List ℕ) where
-  rising : Rises keys → NotFalling (key_at keys) (length keys)
+module _ (keys : List ℕ) (key : ℕ) where
+  rising : Rises keys → (j k : ℕ) → j ≤ k → k < length keys → key_at keys j ≤ key_at keys k
   rising u j zero h b = let same : j ≡ 0 = omega arith in omega (arith, ap (key_at keys) same)
   rising u j (suc k) h b = ⊎_elim (λ g. omega (arith, rising u j k g (omega arith), u k b)) (λ g. omega (arith, ap (key_at keys) (same g))) (order j k)
     where
       same : k < j → j ≡ suc k
       same g = omega arith
 
-  module _ (key place : ℕ) (s : Searching (key_at keys) (length keys) key place place) where
-    pub rising-at : place < length keys → key_at keys place ≡ key → SearchedRising keys key (At place)
-    rising-at b t = record {
-      has_key = λ p e. let same : place ≡ p = cc in (omega arith, cc);
-      first = λ u. sym (first→position keys key place (record { inside = b; has = t; none_earlier = λ q g e. omega (arith, s.below (rising u) q g) }));
-    }
+  rising-below : Rises keys → (j k : ℕ) → j < k → k < length keys → key_at keys j < key_at keys k
+  rising-below u j k h b = let i : suc j ≤ k = omega arith in omega (arith, rising u (suc j) k i b, u j (omega arith))
 
-    pub rising-missing : (place < length keys → key_at keys place ≡ key → ⊥) → SearchedRising keys key Missing
-    rising-missing n = record {
-      has_key = λ p e. let z : ◌≡◌ {A = ℕ} 0 1 = cc in absurd (omega arith);
-      first = λ u. sym (none→missing keys key (λ q h t. let r = place-has (key_at keys) (length keys) key place s (rising u) q h t in n r.0 r.1));
-    }
+  pub searched-rising : (r : Result ℕ ℕ) → IsSearchInRange r (length keys) → IfOk r (HoldsAt (λ y. nat_cmp y key ≡ Equal) keys) → IsBinarySearchResult (λ y. nat_cmp y key) keys r → SearchedRising keys key (result_ok r)
+  searched-rising (Ok i) b e s = record {
+    has_key = λ p a. let same : i ≡ p = cc in (omega arith, ap (key_at keys) (sym same) ∙ has);
+    first = λ u. sym (first→position keys key i (record { inside = b; has = has; none_earlier = λ q h e. let l = rising-below u q i h b in omega (arith, has, e) }));
+  }
+    where
+      has : key_at keys i ≡ key
+      has = exact_unsigned (key_at keys i) key (e 0)
+  searched-rising (Err i) b e s = record {
+    has_key = λ p a. cc;
+    first = λ u. sym (none→missing keys key (none u));
+  }
+    where
+      none : Rises keys → (q : ℕ) → q < length keys → key_at keys q ≡ key → ⊥
+      none u q h a =
+          let f = searched keys key (Err i) s (rising u) in
+          ⊎_elim (λ g. omega (arith, f.2 q g h)) (λ g. omega (arith, f.1 q g)) (order i q)

@@ -1,5 +1,3 @@
 -- What a sort of positions and a search in them promise:
 pub mod Sorted
 pub mod Searched
--- what the parts of the sort promise each other:
-pub mod Merging

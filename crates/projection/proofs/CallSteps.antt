@@ -6,14 +6,15 @@ use Prim.Native.Nat.{ℕ, ◌*◌, ◌≤◌}
 use native.Mathlib.Omega.{arith}
 use lib.Dec.{T, T_not}
 use lib.ListN.{length, take, drop, length-append, length-map}
-use lib.Seq.{length-take-le, length_front, take_at}
+use lib.Seq.{length-take-le}
+use Rattle.std.specs.Prelude.{Some, None}
 use Rattle.rules.specs.Lists.{keep, written, Distinct}
 use Rattle.rules.specs.Ordered.{key_at}
 use Rattle.rules.specs.Positions.{named_entry, id_at}
 use Rattle.rules.specs.Graph.{Edge, source_of, sink_of, starts_at, in_count, out_count}
 use Rattle.rules.specs.Projection.{ProjectedEdge, chain, projected_by, path_ids}
 use Rattle.rules.proofs.Lists.{keep_out, flat_out}
-use Rattle.rules.proofs.Written.{written-parts, written-front}
+use Rattle.rules.proofs.Written.{written-parts, written-front, from-length}
 use Rattle.graph.specs.Adjacency.{leaving}
 use Rattle.projection.specs.Entries.{node_marks, inverts_from, projected_entries}
 use Rattle.projection.specs.Projecting.{NodeLists, ProjectedLists, WorkLists, edges_of, entries_of, projection_fits, ProjectionCall}
@@ -42,11 +43,11 @@ ids-length N (f ∷ fs) = omega (
     path = source_of (edge_at N f) ∷ chain (length (net_edges N)) (net_edges N) (through N.marks) (sink_of (edge_at N f))
 
 module _ (l : NodeLists) (marks : List ℕ) (c : ProjectedLists) (w : WorkLists) where
-  pub call-refused : projection_fits l marks c w ≡ false → ProjectionCall l marks marks c c w w (record { fits = false; retained = 0; projected = 0; path_ids = 0 })
+  pub call-refused : projection_fits l marks c w ≡ false → ProjectionCall l marks marks c c w w None
   call-refused misfits = record {
     answer = sym misfits;
-    done = λ e. let z : ◌≡◌ {A = ℕ} 0 1 = cc in absurd (omega arith);
-    refused = λ e. record { marks_kept = refl; lists_kept = refl; work_kept = refl; nothing = refl };
+    done = tt;
+    refused = λ e. record { marks_kept = refl; lists_kept = refl; work_kept = refl };
   }
 
   module _ (fits : projection_fits l marks c w ≡ true) where
@@ -62,24 +63,18 @@ module _ (l : NodeLists) (marks : List ℕ) (c : ProjectedLists) (w : WorkLists)
     pub marks_room : length l.ids ≤ length marks
     marks_room = f.marked
 
-    pub next_room : length l.sources ≤ length w.next
-    next_room = f.links
-
     pub marks-lent : length (take (length l.ids) marks) ≡ length l.ids
     marks-lent = length-take-le n marks marks_room
-
-    pub next-lent : length (take (length l.sources) w.next) ≡ length l.sources
-    next-lent = length-take-le (length l.sources) w.next next_room
 
     once : Distinct l.order
     once = distinct-rising (id_at l.ids) l.order f.rising
 
-    pub retainable : Retainable l.sources l.sinks l.compressible l.order (take (length l.ids) marks) w.head (take (length l.sources) w.next) w.incoming w.firsts
+    pub retainable : Retainable l.sources l.sinks l.compressible l.order (take (length l.ids) marks) w.head w.next w.incoming w.firsts
     retainable = record {
       pairs = f.pairs;
       nodes = marks-lent ∙ sym f.kinds;
       heads = omega (arith, f.kinds, f.heads);
-      links = next-lent;
+      links = f.links;
       counts = omega (arith, f.kinds, f.counts);
       room = f.firsts;
       sources_below = λ k h. omega (arith, f.kinds, f.sources_below k h);
@@ -89,26 +84,9 @@ module _ (l : NodeLists) (marks : List ℕ) (c : ProjectedLists) (w : WorkLists)
     }
 
     -- the nodes are marked, and the first edges listed
-    module _ (marks' head next firsts : List ℕ) (nodes edges : ℕ) (R : Retaining l.sources l.sinks l.compressible l.order w.firsts marks' head next firsts nodes edges)
-        (heads : length head ≡ length w.head) (room : length firsts ≡ length w.firsts) where
+    module _ (marks' head firsts : List ℕ) (nodes edges : ℕ) (R : Retaining l.sources l.sinks l.compressible l.order w.firsts marks' head firsts nodes edges) where
       size : length marks' ≡ n
       size = marks-length l.sources l.sinks l.compressible marks' R.marked ∙ f.kinds
-
-      -- the marks that are lent again
-      abbrev lent : List ℕ
-      lent = take n (marks' ++ drop n marks)
-
-      lent-are : lent ≡ marks'
-      lent-are = take_at marks' (drop n marks) n size
-
-      pub lent_length : length l.ids ≡ length (take (length l.ids) (marks' ++ drop (length l.ids) marks))
-      lent_length = sym (ap length lent-are ∙ size)
-
-      pub whole_length : length (marks' ++ drop (length l.ids) marks) ≡ length marks
-      whole_length = length_front marks marks' n (size ∙ sym marks-lent)
-
-      pub whole_room : length l.ids ≤ length (marks' ++ drop (length l.ids) marks)
-      whole_room = omega (arith, whole_length, marks_room)
 
       abbrev N : Net
       N = net l.sources l.sinks marks' l.ids l.low l.high l.inverts
@@ -126,13 +104,13 @@ module _ (l : NodeLists) (marks : List ℕ) (c : ProjectedLists) (w : WorkLists)
         lows = f.lows;
         highs = f.highs;
         flags = f.flags;
-        heads = omega (arith, f.heads, heads);
+        heads = omega (arith, R.heads, f.kinds);
         starts = f.sources_below;
         ends = f.sinks_below;
         one_in = one_in;
         one_out = one_out;
-        onward = λ v t. next-linked l.sources l.sinks f.pairs head next R.linked v
-            (omega (arith, through-inside l.sources l.sinks l.compressible marks' R.marked v t, f.kinds, f.heads, heads)) (one_out v t);
+        onward = λ v t. next-linked l.sources l.sinks f.pairs head R.links R.linked v
+            (omega (arith, through-inside l.sources l.sinks l.compressible marks' R.marked v t, R.heads)) (one_out v t);
       }
 
       abbrev kept : List ℕ
@@ -173,8 +151,8 @@ module _ (l : NodeLists) (marks : List ℕ) (c : ProjectedLists) (w : WorkLists)
       number_is : edges ≡ length first-edges
       number_is = let q = R.listed.place in omega arith
 
-      pub number_in : edges ≤ length firsts
-      number_in = omega (arith, number_is, few, f.firsts, room)
+      number_in : edges ≤ length firsts
+      number_in = omega (arith, number_is, few, f.firsts, ap length R.listed.list, from-length w.firsts first-edges 0 (omega (arith, few, f.firsts)))
 
       pub number-lent : edges ≡ length (take edges firsts)
       number-lent = sym (length-take-le edges firsts number_in)
@@ -182,9 +160,8 @@ module _ (l : NodeLists) (marks : List ℕ) (c : ProjectedLists) (w : WorkLists)
       listed : take edges firsts ≡ first-edges
       listed = rw R.listed.list (written-front w.firsts first-edges edges (sym number_is))
 
-      pub ready : Walkable (net l.sources l.sinks (take (length l.ids) (marks' ++ drop (length l.ids) marks)) l.ids l.low l.high l.inverts) head
-          × Fillable (net l.sources l.sinks (take (length l.ids) (marks' ++ drop (length l.ids) marks)) l.ids l.low l.high l.inverts) (take edges firsts) c
-      ready = rw (lent-are, listed) (
+      pub ready : Walkable (net l.sources l.sinks marks' l.ids l.low l.high l.inverts) head × Fillable (net l.sources l.sinks marks' l.ids l.low l.high l.inverts) (take edges firsts) c
+      ready = rw listed (
         walkable,
         record {
           each = first-is;
@@ -219,13 +196,13 @@ module _ (l : NodeLists) (marks : List ℕ) (c : ProjectedLists) (w : WorkLists)
           ap (λ k. marks' ++ drop k marks) (sym size) ∙ ap (λ m. m ++ drop (length m) marks) q ∙ sym (written-parts marks (node_marks es l.compressible n))
 
       pub call-done : (c' : ProjectedLists) (used : ℕ) (w' : WorkLists)
-          → Filled (net l.sources l.sinks (take (length l.ids) (marks' ++ drop (length l.ids) marks)) l.ids l.low l.high l.inverts) (take edges firsts) c c' used
-          → ProjectionCall l marks (marks' ++ drop (length l.ids) marks) c c' w w' (record { fits = true; retained = nodes; projected = edges; path_ids = used })
+          → Filled (net l.sources l.sinks marks' l.ids l.low l.high l.inverts) (take edges firsts) c c' used
+          → ProjectionCall l marks (marks' ++ drop (length l.ids) marks) c c' w w' (Some (record { retained = nodes; projected = edges; path_ids = used }))
       call-done c' used w' F =
-          let G : Filled N first-edges c c' used = rw (lent-are, listed) at F in
+          let G : Filled N first-edges c c' used = rw listed at F in
           record {
             answer = sym fits;
-            done = λ e. record {
+            done = record {
               marked = all-marks;
               listed = rw entries-are at G.written;
               retained = R.retained ∙ rw f.kinds refl;

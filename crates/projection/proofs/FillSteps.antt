@@ -45,6 +45,17 @@ module _ (old row new : List ℕ) (k : ℕ) (size : length row ≡ k) (w : new �
   column-more : (x : ℕ) → k < length old → set new k x ≡ written old (row ++ (x ∷ []))
   column-more x h = rw (w, ← size) (sym (written-more old row x (omega arith)))
 
+-- the columns keep their lengths
+pub record Sizes (old new : ProjectedLists) : Type 0 where
+  pub sources : length new.sources ≡ length old.sources
+  pub sinks : length new.sinks ≡ length old.sinks
+  pub inverted : length new.inverted ≡ length old.inverted
+  pub minimums : length new.minimums ≡ length old.minimums
+  pub maximums : length new.maximums ≡ length old.maximums
+  pub starts : length new.starts ≡ length old.starts
+  pub lengths : length new.lengths ≡ length old.lengths
+  pub ids : length new.ids ≡ length old.ids
+
 module _ (N : Net) (fs : List ℕ) (old : ProjectedLists) (R : Fillable N fs old) where
   abbrev entry : ℕ → ProjectedEdge
   entry e = entry_of N (edge_at N e)
@@ -87,29 +98,17 @@ module _ (N : Net) (fs : List ℕ) (old : ProjectedLists) (R : Fillable N fs old
         ap length (ap (λ l. path_ids (entries_from N l)) (sym (take-append-drop k fs)) ∙ ap path_ids (map-append entry (take k fs) (drop k fs)) ∙ paths-append ps (entries_from N (drop k fs)))
         ∙ length-append (path_ids ps) (path_ids (entries_from N (drop k fs)))
 
-    pub keeps-sources : length new.sources ≡ length old.sources
-    keeps-sources = column-length old.sources _ new.sources k (field-count (λ p. p.source)) F.written.sources (omega (arith, R.sources))
-
-    pub keeps-sinks : length new.sinks ≡ length old.sinks
-    keeps-sinks = column-length old.sinks _ new.sinks k (field-count (λ p. p.sink)) F.written.sinks (omega (arith, R.sinks))
-
-    pub keeps-inverted : length new.inverted ≡ length old.inverted
-    keeps-inverted = column-length old.inverted _ new.inverted k (field-count (λ p. p.inverted)) F.written.inverted (omega (arith, R.inverted))
-
-    pub keeps-minimums : length new.minimums ≡ length old.minimums
-    keeps-minimums = column-length old.minimums _ new.minimums k (field-count (λ p. p.minimum)) F.written.minimums (omega (arith, R.minimums))
-
-    pub keeps-maximums : length new.maximums ≡ length old.maximums
-    keeps-maximums = column-length old.maximums _ new.maximums k (field-count (λ p. p.maximum)) F.written.maximums (omega (arith, R.maximums))
-
-    pub keeps-starts : length new.starts ≡ length old.starts
-    keeps-starts = column-length old.starts _ new.starts k start-count F.written.starts (omega (arith, R.starts))
-
-    pub keeps-lengths : length new.lengths ≡ length old.lengths
-    keeps-lengths = column-length old.lengths _ new.lengths k (field-count path_length) F.written.lengths (omega (arith, R.lengths))
-
-    pub keeps-ids : length new.ids ≡ length old.ids
-    keeps-ids = ap length F.written.ids ∙ from-length old.ids (path_ids ps) 0 (omega (arith, R.ids, paths-split))
+    pub sizes : Sizes old new
+    sizes = record {
+      sources = column-length old.sources _ new.sources k (field-count (λ p. p.source)) F.written.sources (omega (arith, R.sources));
+      sinks = column-length old.sinks _ new.sinks k (field-count (λ p. p.sink)) F.written.sinks (omega (arith, R.sinks));
+      inverted = column-length old.inverted _ new.inverted k (field-count (λ p. p.inverted)) F.written.inverted (omega (arith, R.inverted));
+      minimums = column-length old.minimums _ new.minimums k (field-count (λ p. p.minimum)) F.written.minimums (omega (arith, R.minimums));
+      maximums = column-length old.maximums _ new.maximums k (field-count (λ p. p.maximum)) F.written.maximums (omega (arith, R.maximums));
+      starts = column-length old.starts _ new.starts k start-count F.written.starts (omega (arith, R.starts));
+      lengths = column-length old.lengths _ new.lengths k (field-count path_length) F.written.lengths (omega (arith, R.lengths));
+      ids = ap length F.written.ids ∙ from-length old.ids (path_ids ps) 0 (omega (arith, R.ids, paths-split));
+    }
 
     -- one more
     module _ (i : k < length fs) where
@@ -132,7 +131,7 @@ module _ (N : Net) (fs : List ℕ) (old : ProjectedLists) (R : Fillable N fs old
       start-more = ap path_starts one_more ∙ starts_more 0 ps (entry first) ∙ ap (λ j. path_starts ps ++ (j ∷ [])) (zero-add (length (path_ids ps)) ∙ sym F.place)
 
       pub next_room : end + path_length (entry_of N (edge_at N (get_or fs k 0))) ≤ length new.ids
-      next_room = omega (arith, keeps-ids, R.ids, F.place, ap length path-more, length-append (path_ids ps) (entry first).path, split)
+      next_room = omega (arith, sizes, R.ids, F.place, ap length path-more, length-append (path_ids ps) (entry first).path, split)
         where
           split : length (path_ids (entries_from N fs)) ≡ length (path_ids (entries_from N (take (k + 1) fs))) + length (path_ids (entries_from N (drop (k + 1) fs)))
           split =

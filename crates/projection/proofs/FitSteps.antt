@@ -1,19 +1,20 @@
 -- The tests of the lists' shapes, one by one, and what they say when all pass. Assumes nothing.
-use mathlib.Core.Bool.{Bool, true, false, not, ◌&&◌}
+use mathlib.Core.Bool.{Bool, true, false, not, ◌&&◌, ◌||◌}
 use mathlib.Core.List.Memᴰ
 use mathlib.Core.List.{List, [], ◌∷◌, map, Memᴰ}
 use mathlib.Core.Path.{◌≡◌, refl, sym, ap, ◌∙◌}
 use mathlib.Core.Logic.{⊎_elim}
 use Prim.Native.Nat.{ℕ, zero, suc, ◌+◌, ◌-◌, ◌*◌, ◌<◌, ◌≤◌}
-use native.Mathlib.Decide.{ℕ_discrete}
+use native.Mathlib.Decide.{ℕ_discrete, dec_le}
 use native.Mathlib.Omega.{arith}
-use borrow.Author.Tests.{eqb-true, ltb-true, ltb-false, leb-true, not-false, lt-ltb, le-ltb, le-leb, lt-leb, eq-eqb, ne_eqb}
+use borrow.Author.Tests.{eqb-true, ltb-true, ltb-false, leb-true, not-false, lt-ltb, le-ltb, le-leb, lt-leb, eq-eqb}
 use lib.Dec.{eqb, leb, ltb}
 use lib.ListN.{length, get_or, length-map}
-use Rattle.rules.specs.Lists.{Distinct}
+use Rattle.std.specs.List.{list_all}
+use Rattle.rules.specs.Lists.{any, Distinct}
 use Rattle.rules.specs.Positions.{id_at}
 use Rattle.rules.proofs.Lists.{both_true}
-use Rattle.rules.proofs.Indices.{none-bad, one-bad, each-good, map_at}
+use Rattle.rules.proofs.Indices.{none-bad, each-good, map_at}
 use Rattle.graph.specs.Adjacency.{Below}
 use Rattle.graph.specs.Fits.{ends_below}
 use Rattle.graph.proofs.Fitting.{ends-all, ends-below}
@@ -26,10 +27,6 @@ module _ (n : ℕ) (l : List ℕ) where
   unfolding each_is
   is_all h = none-bad 0 (λ k. not (eqb k n)) l (λ k i. ap not (eq-eqb (get_or l k 0) n (h k i)))
 
-  pub is-not : (k : ℕ) → k < length l → (get_or l k 0 ≡ n → ⊥) → false ≡ each_is n l
-  unfolding each_is
-  is-not k h f = one-bad 0 (λ k. not (eqb k n)) l k h (ap not (ne_eqb (get_or l k 0) n f))
-
   is-each : each_is n l ≡ true → (k : ℕ) → k < length l → get_or l k 0 ≡ n
   unfolding each_is
   is-each e k h = eqb-true (get_or l k 0) n (not-false (eqb (get_or l k 0) n) (each-good 0 (λ k. not (eqb k n)) l e k h))
@@ -38,13 +35,34 @@ module _ (n : ℕ) (l : List ℕ) where
   unfolding each_at_least
   at-least-all h = none-bad 0 (λ k. ltb k n) l (λ k i. le-ltb (get_or l k 0) n (h k i))
 
-  pub at-least-not : (k : ℕ) → k < length l → get_or l k 0 < n → false ≡ each_at_least n l
-  unfolding each_at_least
-  at-least-not k h i = one-bad 0 (λ k. ltb k n) l k h (lt-ltb (get_or l k 0) n i)
-
   at-least-each : each_at_least n l ≡ true → (k : ℕ) → k < length l → n ≤ get_or l k 0
   unfolding each_at_least
   at-least-each e k h = ltb-false (get_or l k 0) n (each-good 0 (λ k. ltb k n) l e k h)
+
+-- the tests as the library makes them
+all-but-none : (b c : Bool) → b ≡ not c → (r s : Bool) → r ≡ not s → (b && r) ≡ not (c || s)
+all-but-none true false q r s e = e
+all-but-none false true q r s e = refl
+all-but-none true true q r s e = absurd (cc)
+all-but-none false false q r s e = absurd (cc)
+
+pub all-is : (n : ℕ) (l : List ℕ) → list_all (λ k. eqb k n) l ≡ each_is n l
+unfolding each_is any
+all-is n [] = refl
+all-is n (k ∷ l) = all-but-none (eqb k n) (not (eqb k n)) (twice (eqb k n)) _ _ (all-is n l)
+  where
+    twice : (b : Bool) → b ≡ not (not b)
+    twice true = refl
+    twice false = refl
+
+pub all-at-least : (n : ℕ) (l : List ℕ) → list_all (λ k. leb n k) l ≡ each_at_least n l
+unfolding each_at_least any
+all-at-least n [] = refl
+all-at-least n (k ∷ l) = all-but-none (leb n k) (ltb k n) (go (dec_le n k)) _ _ (all-at-least n l)
+  where
+    go : Dec (n ≤ k) → leb n k ≡ not (ltb k n)
+    go (yes h) = rw (le-leb n k h, le-ltb k n h) refl
+    go (no h) = rw (lt-leb n k (omega (arith, h)), lt-ltb k n (omega (arith, h))) refl
 
 -- Ids that rise
 
@@ -119,13 +137,6 @@ distinct-rising f (x ∷ l) e = (λ m. let h = rises-first (f x) (map f l) e (f 
 
 -- All tests
 
-no-left : (a b : Bool) → a ≡ false → a && b ≡ false
-no-left a b e = rw e refl
-
-no-right : (a b : Bool) → b ≡ false → a && b ≡ false
-no-right true b e = e
-no-right false b e = refl
-
 pub yes_both : (a b : Bool) → a ≡ true → b ≡ true → a && b ≡ true
 yes_both a b e f = rw (e, f) refl
 
@@ -133,38 +144,6 @@ then-last : (a b c : Bool) → a ≡ true → c ≡ b → c ≡ (a && b)
 then-last a b c e f = rw e f
 
 module _ (ids sources sinks order per-node node-room edge-room : List ℕ) (path_room : ℕ) where
-  pub no_pairs : (length sinks ≡ length sources → ⊥) → false ≡ shapes_fit ids sources sinks order per-node node-room edge-room path_room
-  unfolding shapes_fit
-  no_pairs f = sym (search (no-left, no-right, ne_eqb (length sinks) (length sources) f) depth 12)
-
-  pub no-per-node : each_is (length ids) per-node ≡ false → false ≡ shapes_fit ids sources sinks order per-node node-room edge-room path_room
-  unfolding shapes_fit
-  no-per-node e = sym (search (no-left, no-right) depth 12)
-
-  pub no-node-room : each_at_least (length ids) node-room ≡ false → false ≡ shapes_fit ids sources sinks order per-node node-room edge-room path_room
-  unfolding shapes_fit
-  no-node-room e = sym (search (no-left, no-right) depth 12)
-
-  pub no-edge-room : each_at_least (length sources) edge-room ≡ false → false ≡ shapes_fit ids sources sinks order per-node node-room edge-room path_room
-  unfolding shapes_fit
-  no-edge-room e = sym (search (no-left, no-right) depth 12)
-
-  pub no-path-room : path_room < 2 * length sources → false ≡ shapes_fit ids sources sinks order per-node node-room edge-room path_room
-  unfolding shapes_fit
-  no-path-room h = sym (search (no-left, no-right, lt-leb (2 * length sources) path_room h) depth 12)
-
-  pub no-sources : ends_below (length ids) sources ≡ false → false ≡ shapes_fit ids sources sinks order per-node node-room edge-room path_room
-  unfolding shapes_fit
-  no-sources e = sym (search (no-left, no-right) depth 12)
-
-  pub no-sinks : ends_below (length ids) sinks ≡ false → false ≡ shapes_fit ids sources sinks order per-node node-room edge-room path_room
-  unfolding shapes_fit
-  no-sinks e = sym (search (no-left, no-right) depth 12)
-
-  pub no-order : ends_below (length ids) order ≡ false → false ≡ shapes_fit ids sources sinks order per-node node-room edge-room path_room
-  unfolding shapes_fit
-  no-order e = sym (search (no-left, no-right) depth 12)
-
   -- the last test decides where the others pass
   pub rising-decides : length sinks ≡ length sources → each_is (length ids) per-node ≡ true → each_at_least (length ids) node-room ≡ true → each_at_least (length sources) edge-room ≡ true → 2 * length sources ≤ path_room
       → ends_below (length ids) sources ≡ true → ends_below (length ids) sinks ≡ true → ends_below (length ids) order ≡ true

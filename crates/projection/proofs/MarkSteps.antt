@@ -1,62 +1,15 @@
--- Edges are counted by their ends, and nodes are marked, one by one. Assumes nothing.
+-- Nodes are marked, one by one. Assumes nothing.
 use mathlib.Core.Bool.{Bool, true, false, not, cond}
 use mathlib.Core.List.{List, [], ◌∷◌, map}
 use mathlib.Core.Path.{◌≡◌, refl, sym, ap, ◌∙◌}
 use Prim.Native.Nat.{ℕ, ◌+◌, ◌<◌, ◌≤◌}
-use native.Mathlib.Decide.{ℕ_discrete}
-use native.Mathlib.Numerals.{add-one}
 use native.Mathlib.Omega.{arith}
-use borrow.Author.Tests.{eq-eqb, ne_eqb}
-use lib.Dec.{eqb}
-use lib.ListN.{length, get_or, set, take, replicate, length-set, length-take}
-use lib.Seq.{take-suc, take-length, get_or-set_same, get_or-set_other}
+use lib.ListN.{length, set}
 use Rattle.rules.specs.Lists.{count, from, indices}
 use Rattle.rules.proofs.Counts.{count-append, count_under, count-every}
 use Rattle.rules.proofs.Indices.{indices-length, indices-more, made-length, made_at}
 use Rattle.rules.proofs.Filling.{Filling, filling-none, filling-more, filling-done}
-use Rattle.graph.proofs.Filled.{no-marks}
-use Rattle.projection.specs.Marking.{EndsCounted, compressed_by, Marked}
-
--- Ends counted
-
-pub record Counting (ends : List ℕ) (size : ℕ) (counts : List ℕ) (e : ℕ) : Type 0 where
-  pub inside : e ≤ length ends
-  pub kept : length counts ≡ size
-  pub so_far : EndsCounted (take e ends) counts
-
-module _ (ends : List ℕ) (size : ℕ) where
-  pub counting-none : (counts : List ℕ) → length counts ≡ size → counts ≡ replicate size 0 → Counting ends size counts 0
-  unfolding count
-  counting-none counts k e = record { inside = omega arith; kept = k; so_far = λ v h. no-marks size e v }
-
-  module _ (counts : List ℕ) (e : ℕ) (c : Counting ends size counts e) where
-    pub counting-all : length ends ≤ e → EndsCounted ends counts
-    counting-all h v i = let q : e ≡ length ends = omega (arith, c.inside) in c.so_far v i ∙ ap (count (λ x. eqb x v)) (ap (λ k. take k ends) q ∙ take-length ends)
-
-    -- a count is no more than the ends counted
-    pub counting-few : (v : ℕ) → v < length counts → get_or counts v 0 ≤ e
-    counting-few v h =
-        omega (arith, c.so_far v h, count_under (λ x. eqb x v) (λ x. true) (take e ends) (λ x m t. tt), count-every (take e ends), length-take e ends)
-
-    pub counting_more : (u : ℕ) → get_or ends e 0 ≡ u → e < length ends → u < size → Counting ends size (set counts u (get_or counts u 0 + 1)) (e + 1)
-    unfolding count
-    counting_more u q h k = record {
-      inside = omega arith;
-      kept = length-set counts u (get_or counts u 0 + 1) ∙ c.kept;
-      so_far = λ v i. sum v (omega (arith, length-set counts u (get_or counts u 0 + 1))) ∙ sym (more v);
-    }
-      where
-        more : (v : ℕ) → count (λ x. eqb x v) (take (e + 1) ends) ≡ count (λ x. eqb x v) (take e ends) + cond (eqb u v) 1 0
-        more v = rw (add-one e, take-suc ends e 0 h, q) (count-append (λ x. eqb x v) (take e ends) (u ∷ []))
-
-        sum : (v : ℕ) → v < length counts → get_or (set counts u (get_or counts u 0 + 1)) v 0 ≡ count (λ x. eqb x v) (take e ends) + cond (eqb u v) 1 0
-        sum v i = go (ℕ_discrete v u)
-          where
-            go : Dec (v ≡ u) → get_or (set counts u (get_or counts u 0 + 1)) v 0 ≡ count (λ x. eqb x v) (take e ends) + cond (eqb u v) 1 0
-            go (yes p) = rw (p, get_or-set_same counts u (get_or counts u 0 + 1) 0 (omega (arith, c.kept)), eq-eqb u u refl) (ap (λ k. k + 1) (c.so_far u (omega (arith, c.kept))))
-            go (no p) = rw (get_or-set_other counts u v (get_or counts u 0 + 1) 0 p, ne_eqb u v (λ r. p (sym r))) (omega (arith, c.so_far v i))
-
--- Nodes marked
+use Rattle.projection.specs.Marking.{compressed_by, Marked}
 
 module _ (compressible incoming head next : List ℕ) where
   abbrev size : ℕ
@@ -86,7 +39,7 @@ module _ (compressible incoming head next : List ℕ) where
       pub marked-length : length marks ≡ length compressible
       marked-length = m.front.size ∙ goal-length
 
-      marked-few : retained ≤ v
+      pub marked-few : retained ≤ v
       marked-few = omega (arith, m.kept, count_under (λ v. not (test v)) (λ v. true) (indices v) (λ x k t. tt), count-every (indices v), indices-length v)
 
       pub marked_all : length compressible ≤ v → Marked compressible incoming head next marks retained
@@ -95,22 +48,18 @@ module _ (compressible incoming head next : List ℕ) where
         kept = let e : v ≡ size = omega (arith, m.inside) in m.kept ∙ ap (λ k. count (λ v. not (test v)) (indices k)) e;
       }
 
-      -- a mark is 0 or 1, so no more nodes are retained than there are
-      pub retained-few : (mark : ℕ) → mark ≡ cond (compressed_by compressible incoming head next v) 0 1 → retained + mark ≤ v + 1
-      retained-few mark e = go (test v) e
-        where
-          go : (b : Bool) → mark ≡ cond b 0 1 → retained + mark ≤ v + 1
-          go true q = omega (arith, marked-few)
-          go false q = omega (arith, marked-few)
-
-      pub marked_more : v < length compressible → (mark : ℕ) → mark ≡ cond (compressed_by compressible incoming head next v) 0 1 → MarkedBelow (set marks v mark) (retained + mark) (v + 1)
+      pub marked_more : v < length compressible → (b : Bool) → compressed_by compressible incoming head next v ≡ b → MarkedBelow (set marks v (cond b 0 1)) (cond b retained (retained + 1)) (v + 1)
       unfolding count
-      marked_more h mark e = record {
+      marked_more h b e = record {
         inside = omega arith;
-        front = filling-more goal marks v mark m.front (omega (arith, goal-length)) (made_at (λ v. cond (test v) 0 1) size v 0 h ∙ sym e);
-        kept = rw (indices-more v, e, m.kept) (sym (count-append (λ v. not (test v)) (indices v) (v ∷ []) ∙ ap (λ k. count (λ v. not (test v)) (indices v) + k) (one (test v))));
+        front = filling-more goal marks v (cond b 0 1) m.front (omega (arith, goal-length)) (made_at (λ v. cond (test v) 0 1) size v 0 h ∙ ap (λ b. cond b 0 1) e);
+        kept = more b e;
       }
         where
-          one : (b : Bool) → ◌≡◌ {A = ℕ} (cond (not b) 1 0) (cond b 0 1)
-          one true = refl
-          one false = refl
+          last : (b : Bool) → test v ≡ b → count (λ v. not (test v)) (v ∷ []) ≡ cond b 0 1
+          last true e = rw e refl
+          last false e = rw e refl
+
+          more : (b : Bool) → test v ≡ b → cond b retained (retained + 1) ≡ count (λ v. not (test v)) (indices (v + 1))
+          more true e = omega (arith, m.kept, ap (count (λ v. not (test v))) (indices-more v), count-append (λ v. not (test v)) (indices v) (v ∷ []), last true e)
+          more false e = omega (arith, m.kept, ap (count (λ v. not (test v))) (indices-more v), count-append (λ v. not (test v)) (indices v) (v ∷ []), last false e)

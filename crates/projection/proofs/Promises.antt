@@ -6,6 +6,7 @@ use mathlib.Core.Path.{◌≡◌, ap, ◌∙◌}
 use Prim.Native.Nat.{ℕ, ◌<◌}
 use lib.Dec.{eqb}
 use lib.ListN.{length}
+use Rattle.std.specs.Prelude.{Option, is_some, IfSome}
 use Rattle.rules.specs.Lists.{indices, Distinct}
 use Rattle.rules.specs.Ordered.{key_at}
 use Rattle.rules.specs.Positions.{id_at, Positioned}
@@ -20,11 +21,11 @@ use Rattle.projection.specs.Entries.{compressed_node, node_marks, inverts_from, 
 use Rattle.projection.specs.Projecting.{NodeLists, ProjectedLists, WorkLists, projection_fits, Projecting, Refusing, ProjectionCall}
 use Rattle.projection.proofs.FitSteps.{Fitted, fitting}
 
-module _ {l : NodeLists} {marks marks' : List ℕ} {c c' : ProjectedLists} {w w' : WorkLists} {r : Projected} (call : ProjectionCall l marks marks' c c' w w' r) where
-  pub fitting-projects : Fitted l marks c w → (r.fits ≡ true) × Projecting l marks marks' c c' r
-  fitting-projects f = let e : r.fits ≡ true = call.answer ∙ fitting l marks c w f in (e, call.done e)
+module _ {l : NodeLists} {marks marks' : List ℕ} {c c' : ProjectedLists} {w w' : WorkLists} {r : Option Projected} (call : ProjectionCall l marks marks' c c' w w' r) where
+  pub fitting-projects : Fitted l marks c w → (is_some r ≡ true) × IfSome r (λ p. Projecting l marks marks' c c' p)
+  fitting-projects f = (call.answer ∙ fitting l marks c w f, call.done)
 
-  pub refused-keeps : projection_fits l marks c w ≡ false → Refusing marks marks' c c' w w' r
+  pub refused-keeps : projection_fits l marks c w ≡ false → Refusing marks marks' c c' w w'
   refused-keeps e = call.refused (call.answer ∙ e)
 
 -- the positions of a scene's components, with the numbers that say what each is

@@ -7,7 +7,8 @@ use native.Mathlib.Decide.{dec_lt}
 use native.Mathlib.Omega.{arith}
 use borrow.Author.Tests.{eq-eqb}
 use lib.Dec.{T, eqb, eqb→eq}
-use lib.ListN.{length, get_or, length-map, get_or-eq_default}
+use lib.ListN.{length, get_or, take, length-map, get_or-eq_default}
+use lib.Seq.{length-take-le}
 use Rattle.rules.specs.Lists.{keep, indices}
 use Rattle.rules.specs.Ordered.{key_at}
 use Rattle.rules.specs.Graph.{Edge, ◌⟶◌, in_count, out_count, edges_between}
@@ -16,10 +17,11 @@ use Rattle.rules.proofs.Counts.{count_same}
 use Rattle.rules.proofs.Indices.{indices-below, made-length, made_at, mem-at}
 use Rattle.laws.proofs.PositionEdges.{edges_between-length, edges_between-inside}
 use Rattle.graph.specs.Adjacency.{Below, Indexed, leaving}
+use Rattle.graph.specs.EndCounts.{EndsCounted}
 use Rattle.graph.specs.Fits.{EdgesIndexed, index_fits}
 use Rattle.graph.proofs.Fitting.{ends-all}
 use Rattle.projection.specs.Entries.{compressed_node, node_marks, retained_count}
-use Rattle.projection.specs.Marking.{EndsCounted, linked, compressed_by, Markable, Marked, through, firsts_by, Listable, RowWritten, Retainable, Retaining}
+use Rattle.projection.specs.Marking.{linked, compressed_by, Markable, Marked, through, firsts_by, Listable, RowWritten, Retainable, Retaining}
 use Rattle.projection.proofs.NodeScenes.{firsts-few}
 use Rattle.projection.proofs.FitSteps.{yes_both}
 use Rattle.projection.proofs.EdgeLists.{leaving-rows, in_count_lem, out-count}
@@ -85,10 +87,10 @@ module _ (sources sinks compressible order marks head next incoming firsts : Lis
   sinks-counted k h = omega (arith, R.sinks_below k h, R.counts)
 
   -- the edges are linked
-  module _ (head' next' : List ℕ) (r : Bool) (indexed : EdgesIndexed sources head next head' next' r) (heads : length head' ≡ length head) where
+  module _ (head' next' : List ℕ) (r : Bool) (indexed : EdgesIndexed sources head (take (length sources) next) head' next' r) (heads : length head' ≡ length head) where
     index : Indexed sources head' next'
     unfolding index_fits
-    index = indexed.indexed (indexed.answer ∙ yes_both _ _ (eq-eqb (length next) (length sources) R.links) (sym (ends-all (length head) sources (λ k h. omega (arith, R.sources_below k h, R.heads)))))
+    index = indexed.indexed (indexed.answer ∙ yes_both _ _ (eq-eqb (length (take (length sources) next)) (length sources) (length-take-le _ _ R.links)) (sym (ends-all (length head) sources (λ k h. omega (arith, R.sources_below k h, R.heads)))))
 
     -- and counted
     module _ (incoming' : List ℕ) (counted : EndsCounted sinks incoming') (counts : length incoming' ≡ length incoming) where
@@ -137,5 +139,5 @@ module _ (sources sinks compressible order marks head next incoming firsts : Lis
 
         -- the first edges are listed
         pub retaining : (firsts' : List ℕ) (edges : ℕ) → RowWritten (firsts_by (linked head' next') marks' order) 0 firsts firsts' edges
-            → Retaining sources sinks compressible order firsts marks' head' next' firsts' nodes edges
-        retaining firsts' edges w = record { linked = index; marked = marks-are; retained = retained-are; listed = rw firsts-are at w }
+            → Retaining sources sinks compressible order firsts marks' head' firsts' nodes edges
+        retaining firsts' edges w = record { links = next'; linked = index; heads = omega (arith, R.heads, heads); marked = marks-are; retained = retained-are; listed = rw firsts-are at w }

@@ -5,8 +5,10 @@ use mathlib.Core.List.{List, [], ◌∷◌, ◌++◌, map, map-append, append_as
 use mathlib.Core.Path.{◌≡◌, refl, sym, ap, subst, ◌∙◌}
 use Prim.Native.Nat.{ℕ, zero, suc, ◌+◌, ◌<◌, ◌≤◌}
 use native.Mathlib.Omega.{arith}
+use borrow.Author.Tests.{eq-eqb, ne_eqb}
 use lib.Dec.{T, eqb, eqb→eq}
 use lib.ListN.{length, get_or, set, length-append, length-map, length-set}
+use mir.Val.{bool_byte}
 use Rattle.rules.specs.Lists.{written_from}
 use Rattle.rules.specs.Ordered.{key_at}
 use Rattle.rules.specs.Positions.{id_at, Inside}
@@ -27,7 +29,7 @@ use Rattle.projection.proofs.Rows.{sum_more, flips-more, chain-goes, chain-stops
 use Rattle.projection.proofs.NodeScenes.{through-ends}
 
 -- at the node v, about to leave it along the edge e, with the nodes before it written
-pub record Going (N : Net) (f start : ℕ) (old new : List ℕ) (v e end : ℕ) (delay : DelayRange) (inverted : ℕ) : Type 0 where
+pub record Going (N : Net) (f start : ℕ) (old new : List ℕ) (v e end : ℕ) (delay : DelayRange) (inverted : Bool) : Type 0 where
   pub met : List ℕ
   pub left : ℕ
   pub whole : chain_of N (edge_at N f) ≡ met ++ (v ∷ chain left (net_edges N) (through N.marks) (get_or N.sinks e 0))
@@ -38,16 +40,21 @@ pub record Going (N : Net) (f start : ℕ) (old new : List ℕ) (v e end : ℕ) 
   pub place : end ≡ start + length met
   pub least : delay.minimum_redstone_ticks ≡ delay_sum (key_at N.low) met
   pub greatest : delay.maximum_redstone_ticks ≡ delay_sum (key_at N.high) met
-  pub flipped : inverted ≡ cond (flips (inverts_from N.inverts) met) 1 0
+  pub flipped : inverted ≡ flips (inverts_from N.inverts) met
 
 -- the flag after a node
-abbrev pub flipped_by : ℕ → ℕ → ℕ
-flipped_by inverted inverts = cond (eqb inverts 0) inverted (cond (eqb inverted 0) 1 0)
+abbrev pub flipped_by : Bool → ℕ → Bool
+flipped_by inverted inverts = cond (not (eqb inverts 0)) (not inverted) inverted
 
-flipped-same : (a b : Bool) → ◌≡◌ {A = ℕ} (cond a (cond b 1 0) (cond (eqb (cond b 1 0) 0) 1 0)) (cond (cond (not a) (not b) b) 1 0)
-flipped-same true b = refl
-flipped-same false true = refl
-flipped-same false false = refl
+pub flipped-kept : (inverted : Bool) (inverts : ℕ) → inverts ≡ 0 → inverted ≡ flipped_by inverted inverts
+flipped-kept inverted inverts e = rw (eq-eqb inverts 0 e) refl
+
+pub flipped-turned : (inverted : Bool) (inverts : ℕ) → (inverts ≡ 0 → ⊥) → not inverted ≡ flipped_by inverted inverts
+flipped-turned inverted inverts n = rw (ne_eqb inverts 0 n) refl
+
+byte : (b : Bool) → ◌≡◌ {A = ℕ} (bool_byte b) (cond b 1 0)
+byte true = refl
+byte false = refl
 
 module _ (N : Net) (head : List ℕ) (W : Walkable N head) where
   abbrev es : List Edge
@@ -84,7 +91,7 @@ module _ (N : Net) (head : List ℕ) (W : Walkable N head) where
     unfolding chain_of
     ends-kept = through-ends es (length N.ids) edges-inside th W.one_in W.one_out (edge_at N f) (edge-listed f F.listed) F.kept
 
-    pub going_start : Going N f start old old (get_or N.sources f 0) f start zero_range 0
+    pub going_start : Going N f start old old (get_or N.sources f 0) f start zero_range false
     unfolding chain_of delay_sum flips
     going_start = record {
       met = [];
@@ -100,7 +107,7 @@ module _ (N : Net) (head : List ℕ) (W : Walkable N head) where
       flipped = refl;
     }
 
-    module _ {new : List ℕ} {v e end : ℕ} {delay : DelayRange} {inverted : ℕ} (g : Going N f start old new v e end delay inverted) where
+    module _ {new : List ℕ} {v e end : ℕ} {delay : DelayRange} {inverted : Bool} (g : Going N f start old new v e end delay inverted) where
       abbrev w : ℕ
       w = get_or N.sinks e 0
 
@@ -137,8 +144,8 @@ module _ (N : Net) (head : List ℕ) (W : Walkable N head) where
       greatest-more : delay-more.maximum_redstone_ticks ≡ delay_sum (key_at N.high) before
       greatest-more = rw g.greatest (sym (sum_more (key_at N.high) g.met v))
 
-      flipped-more : flipped_by inverted (key_at N.inverts v) ≡ cond (flips (inverts_from N.inverts) before) 1 0
-      flipped-more = rw (g.flipped, flips-more (inverts_from N.inverts) g.met v) (flipped-same (eqb (key_at N.inverts v) 0) (flips (inverts_from N.inverts) g.met))
+      flipped-more : flipped_by inverted (key_at N.inverts v) ≡ flips (inverts_from N.inverts) before
+      flipped-more = rw (g.flipped, flips-more (inverts_from N.inverts) g.met v) refl
 
       -- the chain if it stops at the next node
       whole-end : chain g.left es th w ≡ w ∷ [] → chain_of N (edge_at N f) ≡ before ++ (w ∷ [])
@@ -182,7 +189,7 @@ module _ (N : Net) (head : List ℕ) (W : Walkable N head) where
         pub last-in : end + 1 < length (set new end (id_at N.ids v))
         last-in = omega (arith, length-set new end (id_at N.ids v), kept-length, last-place)
 
-        pub going_end : Walking N f start old (set (set new end (id_at N.ids v)) (end + 1) (id_at N.ids w)) w (end + 1 + 1) delay-more (flipped_by inverted (key_at N.inverts v))
+        pub going_end : Walking N f start old (set (set new end (id_at N.ids v)) (end + 1) (id_at N.ids w)) w (end + 1 + 1) delay-more (bool_byte (flipped_by inverted (key_at N.inverts v)))
         unfolding entry_of projected_by
         going_end = record {
           names = rw (ended, map-append (id_at N.ids) before (w ∷ []), names_more)
@@ -192,5 +199,5 @@ module _ (N : Net) (head : List ℕ) (W : Walkable N head) where
           last = ap (id_at N.ids) (sym (ap last_of ended ∙ last-appended before w));
           least = least_more ∙ ap (delay_sum (key_at N.low)) (sym (ap before_last ended ∙ before-appended before w));
           greatest = greatest-more ∙ ap (delay_sum (key_at N.high)) (sym (ap before_last ended ∙ before-appended before w));
-          flipped = flipped-more ∙ ap (λ l. cond (flips (inverts_from N.inverts) l) 1 0) (sym (ap before_last ended ∙ before-appended before w));
+          flipped = byte (flipped_by inverted (key_at N.inverts v)) ∙ ap (λ b. cond b 1 0) (flipped-more ∙ ap (flips (inverts_from N.inverts)) (sym (ap before_last ended ∙ before-appended before w)));
         }

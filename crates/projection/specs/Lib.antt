@@ -5,3 +5,5 @@ pub mod PathPart
 -- what the passes below promise each other:
 pub mod Marking
 pub mod Walking
+-- both, at the structs of lists:
+pub mod Lent

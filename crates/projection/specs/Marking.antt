@@ -1,15 +1,11 @@
 -- Nodes marked by how many edges lead there and how many from there, and the edges that chains begin with. Assumes nothing: these are definitions.
-use Rattle.std.specs.Prelude.{Bool, not, cond, ◌&&◌, ◌≡◌, ℕ, ◌+◌, ◌<◌, ◌≤◌, eqb, length, get_or}
+use Rattle.std.specs.Prelude.{Bool, not, cond, ◌&&◌, ◌≡◌, ℕ, ◌+◌, ◌≤◌, eqb, length, get_or}
 use mathlib.Core.List.{List, map, flat_map}
 use Rattle.rules.specs.Lists.{keep, count, indices, written_from, Distinct}
 use Rattle.rules.specs.Ordered.{key_at}
 use Rattle.rules.specs.Graph.{edges_between}
 use Rattle.graph.specs.Adjacency.{Below, chain, Rises, leaving, Indexed}
 use Rattle.projection.specs.Entries.{node_marks, retained_count}
-
--- how often each node is an end
-abbrev pub EndsCounted : (ends counts : List ℕ) → Type 0
-EndsCounted ends counts = (v : ℕ) → v < length counts → get_or counts v 0 ≡ count (λ x. eqb x v) ends
 
 -- the edges out of v, by their links
 abbrev pub linked : (head next : List ℕ) → ℕ → List ℕ
@@ -48,13 +44,13 @@ pub record RowWritten (row : List ℕ) (start : ℕ) (old new : List ℕ) (end :
   pub list : new ≡ written_from start old row
   pub place : end ≡ start + length row
 
--- a sink for each source and each end a node, the order's entries nodes and none twice; a mark for each node and a link for each edge, and
--- room for a head and a count of each node and for each edge
+-- a sink for each source and each end a node, the order's entries nodes and none twice; a mark for each node, and room for a head and a
+-- count of each node, for a link of each edge and for each edge
 pub record Retainable (sources sinks compressible order marks head next incoming firsts : List ℕ) : Type 0 where
   pub pairs : length sinks ≡ length sources
   pub nodes : length marks ≡ length compressible
   pub heads : length compressible ≤ length head
-  pub links : length next ≡ length sources
+  pub links : length sources ≤ length next
   pub counts : length compressible ≤ length incoming
   pub room : length sources ≤ length firsts
   pub sources_below : Below (length compressible) sources
@@ -63,8 +59,10 @@ pub record Retainable (sources sinks compressible order marks head next incoming
   pub once : Distinct order
 
 -- the edges are linked, the nodes marked, and the edges out of the retained ones listed
-pub record Retaining (sources sinks compressible order firsts marks' head' next' firsts' : List ℕ) (nodes edges : ℕ) : Type 0 where
-  pub linked : Indexed sources head' next'
+pub record Retaining (sources sinks compressible order firsts marks' head' firsts' : List ℕ) (nodes edges : ℕ) : Type 0 where
+  pub links : List ℕ
+  pub linked : Indexed sources head' links
+  pub heads : length compressible ≤ length head'
   pub marked : marks' ≡ node_marks (edges_between sources sinks) compressible (length compressible)
   pub retained : nodes ≡ retained_count (edges_between sources sinks) compressible (length compressible)
   pub listed : RowWritten (firsts_by (leaving sources) marks' order) 0 firsts firsts' edges

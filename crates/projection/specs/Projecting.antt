@@ -1,5 +1,5 @@
 -- What the projection reads, writes and promises. Assumes nothing: these are definitions.
-use Rattle.std.specs.Prelude.{Bool, true, false, not, ◌&&◌, List, [], ◌∷◌, map, ◌≡◌, ℕ, ◌*◌, eqb, leb, ltb, length}
+use Rattle.std.specs.Prelude.{Bool, true, false, not, ◌&&◌, Option, is_some, IfSome, List, [], ◌∷◌, map, ◌≡◌, ℕ, ◌*◌, eqb, leb, ltb, length}
 use Rattle.rules.specs.Lists.{any, written}
 use Rattle.rules.specs.Positions.{id_at}
 use Rattle.rules.specs.Graph.{Edge, edges_between}
@@ -101,6 +101,16 @@ projection_fits l marks c w =
     (length w.next ∷ length w.firsts ∷ length c.sources ∷ length c.sinks ∷ length c.inverted ∷ length c.minimums ∷ length c.maximums ∷ length c.starts ∷ length c.lengths ∷ [])
     (length c.ids)
 
+-- the tests of lengths alone
+abbrev pub lengths_fit : NodeLists → (marks : List ℕ) → ProjectedLists → WorkLists → Bool
+lengths_fit l marks c w =
+    eqb (length l.sinks) (length l.sources)
+    && each_is (length l.ids) (length l.low ∷ length l.high ∷ length l.inverts ∷ length l.compressible ∷ [])
+    && each_at_least (length l.ids) (length marks ∷ length w.head ∷ length w.incoming ∷ [])
+    && each_at_least (length l.sources)
+    (length w.next ∷ length w.firsts ∷ length c.sources ∷ length c.sinks ∷ length c.inverted ∷ length c.minimums ∷ length c.maximums ∷ length c.starts ∷ length c.lengths ∷ [])
+    && leb (2 * length l.sources) (length c.ids)
+
 -- The call
 
 -- where the lists fit: the marks, the projected edges with their paths, and how many there are of each
@@ -111,15 +121,14 @@ pub record Projecting (l : NodeLists) (marks marks' : List ℕ) (c c' : Projecte
   pub projected : r.projected ≡ length (entries_of l)
   pub path_ids : r.path_ids ≡ length (path_ids (entries_of l))
 
--- where they do not: every list keeps its content and the counts are 0
-pub record Refusing (marks marks' : List ℕ) (c c' : ProjectedLists) (w w' : WorkLists) (r : Projected) : Type 0 where
+-- where they do not: every list keeps its content
+pub record Refusing (marks marks' : List ℕ) (c c' : ProjectedLists) (w w' : WorkLists) : Type 0 where
   pub marks_kept : marks' ≡ marks
   pub lists_kept : c' ≡ c
   pub work_kept : w' ≡ w
-  pub nothing : r ≡ record { fits = false; retained = 0; projected = 0; path_ids = 0 }
 
 -- the answer, and what the lists hold after the call. Where the lists fit, what those hold that were lent to work in is open
-pub record ProjectionCall (l : NodeLists) (marks marks' : List ℕ) (c c' : ProjectedLists) (w w' : WorkLists) (r : Projected) : Type 0 where
-  pub answer : r.fits ≡ projection_fits l marks c w
-  pub done : r.fits ≡ true → Projecting l marks marks' c c' r
-  pub refused : r.fits ≡ false → Refusing marks marks' c c' w w' r
+pub record ProjectionCall (l : NodeLists) (marks marks' : List ℕ) (c c' : ProjectedLists) (w w' : WorkLists) (r : Option Projected) : Type 0 where
+  pub answer : is_some r ≡ projection_fits l marks c w
+  pub done : IfSome r (λ p. Projecting l marks marks' c c' p)
+  pub refused : is_some r ≡ false → Refusing marks marks' c c' w w'

@@ -3,25 +3,22 @@ ghost use Rattle.std.specs.Prelude.{◌+◌, ◌≤◌, length};
 ghost use Rattle.graph.specs.Adjacency.{Rises, chain};
 ghost use Rattle.projection.specs.Marking.{linked, firsts_by, Listable, RowWritten};
 
+use crate::lent::Links;
+
 // Lists the edges out of the retained nodes, node by node in the given order, and answers how many there are.
 pub(crate) fn list_first_edges(
-    head: &[usize],
-    next: &[usize],
+    links: &Links<'_>,
     marks: &[u8],
     order: &[usize],
     firsts: &mut [usize],
 ) -> usize
-    requires { Listable head.now next.now marks.now order.now firsts.old }
-    ensures { RowWritten (firsts_by (linked head.now next.now) marks.now order.now) 0 firsts.old firsts.new result }
+    requires { Listable links.now.head.now links.now.next.now marks.now order.now firsts.old }
+    ensures { RowWritten (firsts_by (linked links.now.head.now links.now.next.now) marks.now order.now) 0 firsts.old firsts.new result }
 {
     let mut count = 0;
-    let mut i = 0;
-    while i < order.len() {
-        let v = order[i];
-        i += 1;
+    for &v in order {
         if marks[v] != 0 {
-            let first = head[v];
-            count = list_chain(next, firsts, count, first);
+            count = list_chain(links.next, firsts, count, links.head[v]);
         }
     }
     count

@@ -22,44 +22,26 @@ pub fn projected_path<'a>(
     ensures { result.now ≡ projected_path paths.now starts.now lengths.now edge }
 {
     let part = path_part(paths.len(), starts, lengths, edge);
-    let start = part.start;
-    let end = start + part.length;
-    &paths[start..end]
+    &paths[part.start..part.start + part.length]
 }
 
 // Where the path stands in a list 7 of so many ids; start and length are 0 where document 01 gives the empty part.
+#[tactic(auto, unfolding(crate::specs::PathPart::path_part))]
 pub fn path_part(ids: usize, starts: &[usize], lengths: &[usize], edge: usize) -> PathPart
     ensures { result ≡ path_part ids starts.now lengths.now edge }
 {
-    if starts.len() <= edge {
-        return PathPart {
-            start: 0,
-            length: 0,
+    if edge < starts.len() && edge < lengths.len() {
+        let part = PathPart {
+            start: starts[edge],
+            length: lengths[edge],
         };
-    }
-    if lengths.len() <= edge {
-        return PathPart {
-            start: 0,
-            length: 0,
-        };
-    }
-    let start = starts[edge];
-    let length = lengths[edge];
-    // start plus length may be more than a usize holds
-    if ids < start {
-        return PathPart {
-            start: 0,
-            length: 0,
-        };
-    }
-    if ids - start < length {
-        return PathPart {
-            start: 0,
-            length: 0,
-        };
+        // start plus length may be more than a usize holds
+        if part.start <= ids && part.length <= ids - part.start {
+            return part;
+        }
     }
     PathPart {
-        start: start,
-        length: length,
+        start: 0,
+        length: 0,
     }
 }

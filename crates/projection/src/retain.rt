@@ -1,9 +1,13 @@
 // The retained nodes and the edges out of them.
+ghost use Rattle.projection.specs.Lent.{SameProjectionRoom};
 ghost use Rattle.projection.specs.Marking.{Retainable, Retaining};
 
 use crate::first_edges::list_first_edges;
-use crate::marks::{count_ends, mark_nodes};
+use crate::lent::{Links, ProjectionRoom};
+use crate::marks::mark_nodes;
 use graph::adjacency::index_edges;
+use graph::edges::Edges;
+use graph::end_counts::count_ends;
 
 // How many nodes are retained, and how many edges lead out of them.
 #[derive(Clone, Copy)]
@@ -14,25 +18,27 @@ pub(crate) struct Retained {
 
 // Links the edges by their sources, marks each node and lists the edges out of the retained ones.
 pub(crate) fn retain(
-    sources: &[usize],
-    sinks: &[usize],
     compressible: &[u8],
+    edges: &Edges<'_>,
     order: &[usize],
     marks: &mut [u8],
-    head: &mut [usize],
-    next: &mut [usize],
-    incoming: &mut [usize],
-    firsts: &mut [usize],
+    room: &mut ProjectionRoom<'_>,
 ) -> Retained
-    requires { Retainable sources.now sinks.now compressible.now order.now marks.old head.old next.old incoming.old firsts.old }
-    ensures { Retaining sources.now sinks.now compressible.now order.now firsts.old marks.new head.new next.new firsts.new result.nodes result.edges }
+    requires { Retainable edges.now.sources.now edges.now.sinks.now compressible.now order.now marks.old room.old.head.now room.old.next.now room.old.incoming.now room.old.firsts.now }
+    ensures same { SameProjectionRoom room.old room.new }
+    ensures retained { Retaining edges.now.sources.now edges.now.sinks.now compressible.now order.now room.old.firsts.now marks.new room.new.head.now room.new.firsts.now result.nodes result.edges }
 {
-    index_edges(sources, head, next);
-    count_ends(sinks, incoming);
-    let nodes = mark_nodes(compressible, incoming, head, next, marks);
-    let edges = list_first_edges(head, next, marks, order, firsts);
-    Retained {
-        nodes: nodes,
-        edges: edges,
-    }
+    let m = edges.sources.len();
+    let head = &mut *room.head;
+    let next = &mut *room.next;
+    let incoming = &mut *room.incoming;
+    index_edges(edges.sources, head, &mut next[..m]);
+    count_ends(edges.sinks, incoming);
+    let links = Links {
+        head,
+        next: &next[..m],
+    };
+    let nodes = mark_nodes(compressible, incoming, &links, marks);
+    let edges = list_first_edges(&links, marks, order, room.firsts);
+    Retained { nodes, edges }
 }

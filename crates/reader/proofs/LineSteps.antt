@@ -1,171 +1,89 @@
--- Comparing a name and looking for a line's end, byte by byte, and the line that is found. Assumes nothing.
-use mathlib.Core.Bool.{Bool, true, false, cond}
-use mathlib.Core.List.{List, [], ◌∷◌}
-use mathlib.Core.Path.{◌≡◌, refl, sym, ap, ap₂, ◌∙◌}
-use Prim.Native.Nat.{ℕ, zero, suc, ◌+◌, ◌-◌, ◌≤◌, ◌<◌}
-use native.Mathlib.Numerals.{add-one}
-use native.Mathlib.Omega.{arith}
-use borrow.Author.Tests.{eq-eqb, ne_eqb}
-use lib.Dec.{T, eqb}
-use lib.ListN.{length, get_or, take, drop, length-append, length-take, drop_of_length-le}
-use lib.Seq.{drop-cons, drop-drop, take-nil}
+-- The first line of a text, cut at its line feed, and its name. Assumes nothing.
+use Rattle.std.proofs.Common.{◌≡◌, ℕ, suc, ◌+◌, ◌-◌, ◌<◌, Bool, true, false, cond, ◌&&◌, ◌||◌, not, List, [], ◌∷◌, Some, None, nat_lt, eqb, length, take, drop, position, refl, sym, ap, ◌∙◌, add-one, arith}
+use Rattle.std.specs.Cmp.Lexicographic.{pointwise}
+use Rattle.std.specs.List.{position_or_len}
 use Rattle.rules.specs.Lists.{any}
 use Rattle.rules.specs.Text.{line_feed, has_line, line_of, after_line, starts_with}
-use Rattle.rules.proofs.TextLines.{starts-split}
-use Rattle.reader.specs.Lines.{LineEnd, has_name, FoundLine}
+use Rattle.reader.specs.Lines.{has_name, FoundLine}
+use Rattle.std.proofs.lemmas.Bool.{ltb-true}
+use Rattle.std.proofs.lemmas.Bool.Decides.{nat_tests}
+use Rattle.std.proofs.Math.ListN.{length-take, length-drop}
+use Rattle.std.proofs.Math.Seq.{take_all}
 
--- Comparing a name
+-- how many bytes stand before the first line feed
+abbrev pub first_feed : List ℕ → ℕ
+first_feed bs = position_or_len (eqb line_feed) bs
 
-module _ (n b : ℕ) (ns bs : List ℕ) where
-  same_first : b ≡ n → starts_with (n ∷ ns) (b ∷ bs) ≡ starts_with ns bs
-  unfolding starts_with
-  same_first e = rw (eq-eqb n b (sym e))
+one_more : (n : ℕ) → suc n ≡ 1 + n
+one_more n = omega arith
 
-  other-first : (b ≡ n → ⊥) → starts_with (n ∷ ns) (b ∷ bs) ≡ false
-  unfolding starts_with
-  other-first h = rw (ne_eqb n b (λ e. h (sym e)))
-
-ended-first : (n : ℕ) (ns : List ℕ) → starts_with (n ∷ ns) [] ≡ false
-unfolding starts_with
-ended-first n ns = refl
-
-no_name : (bs : List ℕ) → starts_with [] bs ≡ true
-unfolding starts_with
-no_name bs = refl
-
-module _ (name line : List ℕ) (i : ℕ) where
-  pub name-ended : i < length name → length line ≤ i → starts_with (drop i name) (drop i line) ≡ false
-  name-ended h k = ap₂ starts_with (drop-cons name i 0 h) (drop_of_length-le line k) ∙ ended-first (get_or name i 0) (drop (suc i) name)
-
-  pub name-other : i < length name → i < length line → (get_or line i 0 ≡ get_or name i 0 → ⊥) → starts_with (drop i name) (drop i line) ≡ false
-  name-other h k d = ap₂ starts_with (drop-cons name i 0 h) (drop-cons line i 0 k) ∙ other-first (get_or name i 0) (get_or line i 0) (drop (suc i) name) (drop (suc i) line) d
-
-  pub name-more : i < length name → i < length line → get_or line i 0 ≡ get_or name i 0 → starts_with (drop i name) (drop i line) ≡ starts_with (drop (i + 1) name) (drop (i + 1) line)
-  name-more h k e = rw add-one (ap₂ starts_with (drop-cons name i 0 h) (drop-cons line i 0 k) ∙ same_first (get_or name i 0) (get_or line i 0) (drop (suc i) name) (drop (suc i) line) e)
-
-  pub name-whole : length name ≤ i → starts_with (drop i name) (drop i line) ≡ true
-  name-whole h = ap (λ ns. starts_with ns (drop i line)) (drop_of_length-le name h) ∙ no_name (drop i line)
-
--- a line that starts with a name has room for it
-pub name-fits : (name line : List ℕ) → starts_with name line ≡ true → length name ≤ length line
-name-fits name line e = let t : T (starts_with name line) = rw e tt in omega (arith, ap length (starts-split name line t), length-append name (drop (length name) line))
-
--- Looking for a line's end
-
-module _ (b : ℕ) (bs : List ℕ) where
-  ends-has : b ≡ line_feed → has_line (b ∷ bs) ≡ true
-  unfolding any
-  ends-has e = rw (eq-eqb line_feed b (sym e))
-
-  ends-line : b ≡ line_feed → line_of (b ∷ bs) ≡ []
-  unfolding line_of
-  ends-line e = rw (eq-eqb line_feed b (sym e))
-
-  ends-after : b ≡ line_feed → after_line (b ∷ bs) ≡ bs
-  unfolding after_line
-  ends-after e = rw (eq-eqb line_feed b (sym e))
-
-  more-has : (b ≡ line_feed → ⊥) → has_line (b ∷ bs) ≡ has_line bs
-  unfolding any
-  more-has h = rw (ne_eqb line_feed b (λ e. h (sym e)))
-
-  more-line : (b ≡ line_feed → ⊥) → line_of (b ∷ bs) ≡ b ∷ line_of bs
-  unfolding line_of
-  more-line h = rw (ne_eqb line_feed b (λ e. h (sym e)))
-
-  more-after : (b ≡ line_feed → ⊥) → after_line (b ∷ bs) ≡ after_line bs
-  unfolding after_line
-  more-after h = rw (ne_eqb line_feed b (λ e. h (sym e)))
-
--- a line is the front of what is left
-line-front : (bs : List ℕ) → line_of bs ≡ take (length (line_of bs)) bs
-unfolding line_of
-line-front [] = refl
-line-front (b ∷ bs) = go (eqb line_feed b) (line-front bs)
-  where
-    go : (t : Bool) → line_of bs ≡ take (length (line_of bs)) bs → cond t [] (b ∷ line_of bs) ≡ take (length (cond t [] (b ∷ line_of bs))) (b ∷ bs)
-    go true e = refl
-    go false e = ap (λ r. b ∷ r) e
-
-none_left : has_line [] ≡ false
+has_line-cut : (bs : List ℕ) → has_line bs ≡ nat_lt (first_feed bs) (length bs)
 unfolding any
-none_left = refl
+has_line-cut [] = refl
+has_line-cut (b ∷ bs) = go (eqb line_feed b) (has_line-cut bs)
+  where
+    go : (t : Bool) → has_line bs ≡ nat_lt (first_feed bs) (length bs) → (t || has_line bs) ≡ nat_lt (cond (not t) (1 + first_feed bs) 0) (length (b ∷ bs))
+    go true e = let k = length bs in let none_before : true ≡ nat_lt 0 (suc k) = grind (arith, nat_tests) in none_before
+    go false e = let n = first_feed bs in let k = length bs in let more : nat_lt n k ≡ nat_lt (1 + n) (suc k) = grind (arith, nat_tests) in e ∙ more
 
--- no line feed stands between the two places
-pub record Walked (text : List ℕ) (at i : ℕ) : Type 0 where
-  pub forward : at ≤ i
-  pub has : has_line (drop at text) ≡ has_line (drop i text)
-  pub size : at + length (line_of (drop at text)) ≡ i + length (line_of (drop i text))
-  pub after : after_line (drop at text) ≡ after_line (drop i text)
+line_of-cut : (bs : List ℕ) → line_of bs ≡ take (first_feed bs) bs
+unfolding line_of
+line_of-cut [] = refl
+line_of-cut (b ∷ bs) = go (eqb line_feed b) (line_of-cut bs)
+  where
+    go : (t : Bool) → line_of bs ≡ take (first_feed bs) bs → cond t [] (b ∷ line_of bs) ≡ take (cond (not t) (1 + first_feed bs) 0) (b ∷ bs)
+    go true e = refl
+    go false e = ap (λ l. b ∷ l) e ∙ ap (λ n. take n (b ∷ bs)) (one_more (first_feed bs))
 
-module _ (text : List ℕ) (at : ℕ) where
-  pub walked_none : Walked text at at
-  walked_none = record { forward = omega arith; has = refl; size = refl; after = refl }
+after_line-cut : (bs : List ℕ) → after_line bs ≡ drop (suc (first_feed bs)) bs
+unfolding after_line
+after_line-cut [] = refl
+after_line-cut (b ∷ bs) = go (eqb line_feed b) (after_line-cut bs)
+  where
+    go : (t : Bool) → after_line bs ≡ drop (suc (first_feed bs)) bs → cond t bs (after_line bs) ≡ drop (suc (cond (not t) (1 + first_feed bs) 0)) (b ∷ bs)
+    go true e = refl
+    go false e = e ∙ ap (λ n. drop n bs) (one_more (first_feed bs))
 
-  module _ (i : ℕ) (w : Walked text at i) where
-    pub walked_more : i < length text → (get_or text i 0 ≡ line_feed → ⊥) → Walked text at (i + 1)
-    walked_more h d =
-        let e = drop-cons text i 0 h in
-        let b = get_or text i 0 in
-        let bs = drop (suc i) text in
-        rw add-one (record {
-          forward = omega (arith, w.forward);
-          has = w.has ∙ ap has_line e ∙ more-has b bs d;
-          size = omega (arith, w.size, ap (λ r. length (line_of r)) e, ap length (more-line b bs d));
-          after = w.after ∙ ap after_line e ∙ more-after b bs d;
-        })
-
-    pub walked_end : i < length text → get_or text i 0 ≡ line_feed → LineEnd text at i
-    walked_end h f =
-        let e = drop-cons text i 0 h in
-        let b = get_or text i 0 in
-        let bs = drop (suc i) text in
-        let size : length (line_of (drop at text)) ≡ i - at = omega (arith, w.size, ap (λ r. length (line_of r)) e, ap length (ends-line b bs f)) in
-        record {
-          forward = w.forward;
-          left = λ _. w.has ∙ ap has_line e ∙ ends-has b bs f;
-          line = λ _. line-front (drop at text) ∙ ap (λ n. take n (drop at text)) size;
-          after = λ _. w.after ∙ ap after_line e ∙ ends-after b bs f;
-          missing = λ g. absurd (omega arith);
-        }
-
-    pub walked-past : length text ≤ i → LineEnd text at i
-    walked-past h = record {
-      forward = w.forward;
-      left = λ g. absurd (omega arith);
-      line = λ g. absurd (omega arith);
-      after = λ g. absurd (omega arith);
-      missing = λ _. w.has ∙ ap has_line (drop_of_length-le text h) ∙ none_left;
-    }
+-- a name is compared byte by byte
+compared : (name line : List ℕ) → pointwise eqb (take (length name) line) name ≡ starts_with name line
+unfolding starts_with
+compared [] line = refl
+compared (n ∷ name) [] = refl
+compared (n ∷ name) (b ∷ line) = let e = compared name line in let s : eqb b n ≡ eqb n b = grind arith in cc
 
 -- The line that is found
 
-drop-take : (n m : ℕ) (l : List ℕ) → drop n (take m l) ≡ take (m - n) (drop n l)
-drop-take zero m l = let e : m ≡ m - 0 = omega arith in ap (λ k. take k l) e
-drop-take (suc n) zero l = let e : 0 ≡ 0 - suc n = omega arith in ap (λ k. take k (drop (suc n) l)) e
-drop-take (suc n) (suc m) [] = sym (take-nil (suc m - suc n))
-drop-take (suc n) (suc m) (x ∷ l) = let e : m - n ≡ suc m - suc n = omega arith in drop-take n m l ∙ ap (λ k. take k (drop n l)) e
+module _ (text name : List ℕ) where
+  pub line_missing : None ≡ position (eqb line_feed) text → has_name name text ≡ false
+  line_missing e = go (has_line text) (has_line-cut text) e
+    where
+      go : (t : Bool) → t ≡ nat_lt (first_feed text) (length text) → None ≡ position (eqb line_feed) text → (t && starts_with name (line_of text)) ≡ false
+      go true f h = let g : None ≡ Some (first_feed text) = h ∙ ap (λ t. cond t (Some (first_feed text)) None) (sym f) in cc
+      go false f h = refl
 
-module _ (text : List ℕ) (at : ℕ) (name : List ℕ) (end : ℕ) (l : LineEnd text at end) where
-  pub line-missing : length text ≤ end → has_name name (drop at text) ≡ false
-  line-missing h = rw (l.missing h)
+  module _ (end : ℕ) (e : Some end ≡ position (eqb line_feed) text) where
+    found : (has_line text ≡ true) × (end ≡ first_feed text)
+    found = go (has_line text) (has_line-cut text) e
+      where
+        go : (t : Bool) → t ≡ nat_lt (first_feed text) (length text) → Some end ≡ position (eqb line_feed) text → (t ≡ true) × (end ≡ first_feed text)
+        go true f h = let g : Some end ≡ Some (first_feed text) = h ∙ ap (λ t. cond t (Some (first_feed text)) None) (sym f) in (refl, cc)
+        go false f h = let g : Some end ≡ None = h ∙ ap (λ t. cond t (Some (first_feed text)) None) (sym f) in cc
 
-  module _ (h : end < length text) where
-    pub line_other : starts_with name (take (end - at) (drop at text)) ≡ false → has_name name (drop at text) ≡ false
-    line_other e = rw (l.left h, l.line h, e)
+    pub line_other : pointwise eqb (take (length name) (take end text)) name ≡ false → has_name name text ≡ false
+    line_other h =
+        let f = found in
+        rw (f.0, line_of-cut text, sym f.1, sym (compared name (take end text))) h
 
-    pub line-room : starts_with name (take (end - at) (drop at text)) ≡ true → at + length name ≤ end
-    line-room e = omega (arith, l.forward, name-fits name (take (end - at) (drop at text)) e, length-take (end - at) (drop at text))
-
-    pub line-found : starts_with name (take (end - at) (drop at text)) ≡ true → FoundLine text at name (at + length name) end
-    line-found e =
-        let room = line-room e in
-        let size : end - at - length name ≡ end - (at + length name) = omega arith in
+    pub line_found : (value : List ℕ) → pointwise eqb (take (length name) (take end text)) name ≡ true → value ≡ drop (length name) (take end text) → length value + length name ≡ length (take end text)
+        → FoundLine text name value (take (length text - (end + 1)) (drop (end + 1) text))
+    line_found value h v n =
+        let f = found in
+        let inside : end < length text = omega (arith, f.1, ltb-true (first_feed text) (length text) (sym (has_line-cut text) ∙ f.0)) in
+        let rest = drop (end + 1) text in
+        let whole : take (length text - (end + 1)) rest ≡ rest = take_all (length text - (end + 1)) rest (omega (arith, length-drop (end + 1) text)) in
         record {
-          named = rw (l.left h, l.line h, e);
-          value = ap (drop (length name)) (l.line h) ∙ drop-take (length name) (end - at) (drop at text) ∙ ap₂ take size (drop-drop (length name) at text);
-          after = l.after h;
-          starts = refl;
-          room = room;
-          inside = h;
+          named = rw (f.0, line_of-cut text, sym f.1, sym (compared name (take end text))) h;
+          value_is = v ∙ ap (λ n. drop (length name) (take n text)) f.1 ∙ ap (drop (length name)) (sym (line_of-cut text));
+          rest_is = whole ∙ ap (λ n. drop n text) (add-one end ∙ ap suc f.1) ∙ sym (after_line-cut text);
+          amount = omega (arith, n, length-take end text, ap length whole, length-drop (end + 1) text);
         }

@@ -1,52 +1,44 @@
 -- Reading a number digit by digit, and the forms a number has. Assumes nothing.
-use mathlib.Core.Bool.{Bool, true, false, not, cond, ◌&&◌}
-use mathlib.Core.List.{List, [], ◌∷◌}
-use mathlib.Core.Option.{Option, none, some}
-use mathlib.Core.Path.{◌≡◌, refl, sym, ap, ◌∙◌}
-use Prim.Native.Nat.{ℕ, zero, suc, ◌+◌, ◌*◌, ◌-◌, ◌≤◌, ◌<◌}
-use native.Mathlib.Numerals.{add-one}
-use native.Mathlib.Omega.{arith}
-use borrow.Author.Tests.{eq-eqb, ne_eqb, le-leb, lt-leb}
-use lib.Dec.{eqb, leb}
-use lib.IntN.{negsuc}
-use lib.ListN.{length, get_or, drop, drop_of_length-le}
-use lib.Seq.{drop-cons}
+use Rattle.std.proofs.Common.{◌≡◌, ℕ, zero, suc, ◌+◌, ◌*◌, ◌-◌, ◌≤◌, ◌<◌, Bool, true, false, not, cond, ◌&&◌, List, [], ◌∷◌, Option, Some, None, eqb, leb, length, get_or, take, drop, refl, sym, ap, ◌∙◌, add-one, arith}
+use Rattle.std.specs.Cmp.Lexicographic.{pointwise, same_text}
+use Rattle.std.proofs.Math.IntN.{negsuc}
+use Rattle.std.proofs.Math.Seq.{drop-cons}
+use Rattle.std.proofs.Math.ListN.{drop_of_length-le}
+use Rattle.std.proofs.lemmas.Bool.{le-leb, lt-leb}
+use Rattle.std.proofs.Math.Dec.{eqb-suc-zero}
+use Rattle.std.proofs.Math.Bool.{and_assoc}
 use Rattle.rules.specs.Lists.{every}
-use Rattle.rules.specs.Text.{is_none, delay_word}
-use Rattle.rules.specs.Bytes.{is_digit, value_from, leading_zero, is_decimal, number_up_to, negative, not_negative, signed_number}
+use Rattle.rules.specs.Text.{starts_with, delay_word}
+use Rattle.rules.specs.Bytes.{bytes, is_digit, value_from, leading_zero, is_decimal, number_up_to, negative, not_negative, signed_number}
 use Rattle.rules.proofs.Decimals.{number-text, delay-text}
 
 -- what digits say after those read before them, up to the largest
 unfoldable pub digits_from : ℕ → ℕ → List ℕ → Option ℕ
-digits_from most v bs = cond (every is_digit bs && leb (value_from v bs) most) (some (value_from v bs)) none
+digits_from most v bs = cond (every is_digit bs && leb (value_from v bs) most) (Some (value_from v bs)) None
 
 value_grows : (v : ℕ) (bs : List ℕ) → v ≤ value_from v bs
 unfolding value_from
 value_grows v [] = omega arith
 value_grows v (b ∷ bs) = omega (arith, value_grows (10 * v + (b - 48)) bs)
 
-no_second : (a b : Bool) (x : Option ℕ) → b ≡ false → cond (a && b) x none ≡ none
+no_second : (a b : Bool) (x : Option ℕ) → b ≡ false → cond (a && b) x None ≡ None
 no_second true b x e = rw e
 no_second false b x e = refl
 
 module _ (most v b : ℕ) (bs : List ℕ) where
-  below-digits : b < 48 → digits_from most v (b ∷ bs) ≡ none
+  no-digit : is_digit b ≡ false → digits_from most v (b ∷ bs) ≡ None
   unfolding digits_from every
-  below-digits h = rw (lt-leb 48 b h)
+  no-digit e = rw e
 
-  above-digits : 57 < b → digits_from most v (b ∷ bs) ≡ none
-  unfolding digits_from every
-  above-digits h = rw (le-leb 48 b (omega arith), lt-leb b 57 h)
-
-  too_large : most < 10 * v + (b - 48) → digits_from most v (b ∷ bs) ≡ none
+  too_large : most < 10 * v + (b - 48) → digits_from most v (b ∷ bs) ≡ None
   unfolding digits_from value_from
   too_large h = no_second (every is_digit (b ∷ bs)) _ _ (lt-leb (value_from (10 * v + (b - 48)) bs) most (omega (arith, value_grows (10 * v + (b - 48)) bs)))
 
-  next-digit : 48 ≤ b → b ≤ 57 → digits_from most v (b ∷ bs) ≡ digits_from most (10 * v + (b - 48)) bs
+  next-digit : is_digit b ≡ true → digits_from most v (b ∷ bs) ≡ digits_from most (10 * v + (b - 48)) bs
   unfolding digits_from every value_from
-  next-digit h k = rw (le-leb 48 b h, le-leb b 57 k)
+  next-digit e = rw e
 
-last-digit : (most v : ℕ) → v ≤ most → digits_from most v [] ≡ some v
+last-digit : (most v : ℕ) → v ≤ most → digits_from most v [] ≡ Some v
 unfolding digits_from every value_from
 last-digit most v h = rw (le-leb v most h)
 
@@ -54,92 +46,108 @@ last-digit most v h = rw (le-leb v most h)
 
 module _ (digits : List ℕ) (most v i : ℕ) where
   module _ (h : i < length digits) where
-    pub stops_below : get_or digits i 0 < 48 → digits_from most v (drop i digits) ≡ none
-    stops_below k = ap (digits_from most v) (drop-cons digits i 0 h) ∙ below-digits most v (get_or digits i 0) (drop (suc i) digits) k
+    at_place : drop i digits ≡ get_or digits i 0 ∷ drop (i + 1) digits
+    at_place = rw add-one (drop-cons digits i 0 h)
 
-    pub stops-above : 57 < get_or digits i 0 → digits_from most v (drop i digits) ≡ none
-    stops-above k = ap (digits_from most v) (drop-cons digits i 0 h) ∙ above-digits most v (get_or digits i 0) (drop (suc i) digits) k
+    pub stops_other : is_digit (get_or digits i 0) ≡ false → digits_from most v (drop i digits) ≡ None
+    stops_other e = ap (digits_from most v) at_place ∙ no-digit most v (get_or digits i 0) (drop (i + 1) digits) e
 
-    pub stops-large : most < 10 * v + (get_or digits i 0 - 48) → digits_from most v (drop i digits) ≡ none
-    stops-large k = ap (digits_from most v) (drop-cons digits i 0 h) ∙ too_large most v (get_or digits i 0) (drop (suc i) digits) k
+    pub stops_large : most < 10 * v + (get_or digits i 0 - 48) → digits_from most v (drop i digits) ≡ None
+    stops_large k = ap (digits_from most v) at_place ∙ too_large most v (get_or digits i 0) (drop (i + 1) digits) k
 
-    pub goes_on : 48 ≤ get_or digits i 0 → get_or digits i 0 ≤ 57 → digits_from most v (drop i digits) ≡ digits_from most (10 * v + (get_or digits i 0 - 48)) (drop (i + 1) digits)
-    goes_on k l = rw add-one (ap (digits_from most v) (drop-cons digits i 0 h) ∙ next-digit most v (get_or digits i 0) (drop (suc i) digits) k l)
+    pub goes_on : (n : ℕ) → is_digit (get_or digits i 0) ≡ true → n ≡ v * 10 + (get_or digits i 0 - 48) → digits_from most v (drop i digits) ≡ digits_from most n (drop (i + 1) digits)
+    goes_on n e is = let more : 10 * v + (get_or digits i 0 - 48) ≡ n = omega arith in ap (digits_from most v) at_place ∙ next-digit most v (get_or digits i 0) (drop (i + 1) digits) e ∙ ap (λ n. digits_from most n (drop (i + 1) digits)) more
 
-  pub ends : length digits ≤ i → v ≤ most → digits_from most v (drop i digits) ≡ some v
+  pub ends : length digits ≤ i → v ≤ most → digits_from most v (drop i digits) ≡ Some v
   ends h k = ap (digits_from most v) (drop_of_length-le digits h) ∙ last-digit most v k
 
 -- The form of a number
 
-pub leads-short : (bs : List ℕ) → length bs < 2 → leading_zero bs ≡ false
-leads-short [] h = refl
-leads-short (b ∷ []) h = refl
-leads-short (b ∷ c ∷ bs) h = absurd (omega arith)
-
-pub leads-long : (bs : List ℕ) → 2 ≤ length bs → leading_zero bs ≡ eqb (get_or bs 0 0) 48
-leads-long [] h = absurd (omega arith)
-leads-long (b ∷ []) h = absurd (omega arith)
-leads-long (b ∷ c ∷ bs) h = refl
-
 module _ (most : ℕ) where
-  pub number-empty : (bs : List ℕ) → length bs ≡ 0 → number_up_to most bs ≡ none
+  pub number_empty : (bs : List ℕ) → length bs ≡ 0 → number_up_to most bs ≡ None
   unfolding is_decimal number_up_to
-  number-empty [] h = refl
-  number-empty (b ∷ bs) h = absurd (omega arith)
+  number_empty [] h = refl
+  number_empty (b ∷ bs) h = absurd (omega arith)
 
-  pub number-leads : (bs : List ℕ) → leading_zero bs ≡ true → number_up_to most bs ≡ none
+  pub number_leads : (bs : List ℕ) → leading_zero bs ≡ true → number_up_to most bs ≡ None
   unfolding is_decimal number_up_to
-  number-leads [] e = refl
-  number-leads (b ∷ bs) e = go (every is_digit (b ∷ bs)) (leading_zero (b ∷ bs)) e
+  number_leads [] e = refl
+  number_leads (b ∷ bs) e = go (every is_digit (b ∷ bs)) (leading_zero (b ∷ bs)) e
     where
-      go : (a z : Bool) → z ≡ true → cond ((a && not z) && leb (value_from 0 (b ∷ bs)) most) (some (value_from 0 (b ∷ bs))) none ≡ none
+      go : (a z : Bool) → z ≡ true → cond ((a && not z) && leb (value_from 0 (b ∷ bs)) most) (Some (value_from 0 (b ∷ bs))) None ≡ None
       go true z f = rw f
       go false z f = refl
 
-  pub number-starts : (bs : List ℕ) → (length bs ≡ 0 → ⊥) → leading_zero bs ≡ false → number_up_to most bs ≡ digits_from most 0 bs
+  pub number_starts : (bs : List ℕ) → 0 < length bs → leading_zero bs ≡ false → number_up_to most bs ≡ digits_from most 0 bs
   unfolding is_decimal number_up_to digits_from
-  number-starts [] h e = absurd (h refl)
-  number-starts (b ∷ bs) h e = go (every is_digit (b ∷ bs)) (leading_zero (b ∷ bs)) e
+  number_starts [] h e = absurd (omega arith)
+  number_starts (b ∷ bs) h e = go (every is_digit (b ∷ bs)) (leading_zero (b ∷ bs)) e
     where
-      go : (a z : Bool) → z ≡ false → cond ((a && not z) && leb (value_from 0 (b ∷ bs)) most) (some (value_from 0 (b ∷ bs))) none ≡ cond (a && leb (value_from 0 (b ∷ bs)) most) (some (value_from 0 (b ∷ bs))) none
+      go : (a z : Bool) → z ≡ false → cond ((a && not z) && leb (value_from 0 (b ∷ bs)) most) (Some (value_from 0 (b ∷ bs))) None ≡ cond (a && leb (value_from 0 (b ∷ bs)) most) (Some (value_from 0 (b ∷ bs))) None
       go true z f = rw f
       go false z f = refl
 
   -- a number that is read is at most the largest
-  pub number_fits : (bs : List ℕ) (n : ℕ) → some n ≡ number_up_to most bs → n ≤ most
+  pub number_fits : (bs : List ℕ) (n : ℕ) → Some n ≡ number_up_to most bs → n ≤ most
   number_fits bs n e = (number-text most bs n (sym e)).1
 
 -- The form of a signed number
 
-pub signed-empty : (bs : List ℕ) → length bs ≡ 0 → signed_number bs ≡ none
-unfolding signed_number
-signed-empty [] h = refl
-signed-empty (b ∷ bs) h = absurd (omega arith)
+-- the first byte compared with a minus
+abbrev pub minus_first : List ℕ → Bool
+minus_first bs = pointwise eqb (take 1 bs) (45 ∷ [])
 
-pub signed-minus : (bs : List ℕ) → (length bs ≡ 0 → ⊥) → get_or bs 0 0 ≡ 45 → signed_number bs ≡ negative (number_up_to 2147483648 (drop 1 bs))
+after-minus : (bs : List ℕ) → minus_first bs ≡ true → signed_number bs ≡ negative (number_up_to 2147483648 (drop 1 bs))
 unfolding signed_number
-signed-minus [] h e = absurd (h refl)
-signed-minus (b ∷ bs) h e = rw (eq-eqb b 45 e)
+after-minus [] e = cc
+after-minus (b ∷ bs) e = go (eqb b 45) e
+  where
+    go : (t : Bool) → (t && true) ≡ true → cond t (negative (number_up_to 2147483648 bs)) (not_negative (number_up_to 2147483647 (b ∷ bs))) ≡ negative (number_up_to 2147483648 bs)
+    go true e = refl
+    go false e = cc
 
-pub signed-plain : (bs : List ℕ) → (length bs ≡ 0 → ⊥) → (get_or bs 0 0 ≡ 45 → ⊥) → signed_number bs ≡ not_negative (number_up_to 2147483647 bs)
-unfolding signed_number
-signed-plain [] h e = absurd (h refl)
-signed-plain (b ∷ bs) h e = rw (ne_eqb b 45 e)
+pub signed_minus : (bs size : List ℕ) (n : Option ℕ) → minus_first bs ≡ true → size ≡ drop 1 bs → n ≡ number_up_to 2147483648 size → signed_number bs ≡ negative n
+signed_minus bs size n first is e = after-minus bs first ∙ ap (λ l. negative (number_up_to 2147483648 l)) (sym is) ∙ ap negative (sym e)
+
+pub signed_plain : (bs : List ℕ) → minus_first bs ≡ false → signed_number bs ≡ not_negative (number_up_to 2147483647 bs)
+unfolding signed_number number_up_to is_decimal
+signed_plain [] e = refl
+signed_plain (b ∷ bs) e = go (eqb b 45) e
+  where
+    go : (t : Bool) → (t && true) ≡ false → cond t (negative (number_up_to 2147483648 bs)) (not_negative (number_up_to 2147483647 (b ∷ bs))) ≡ not_negative (number_up_to 2147483647 (b ∷ bs))
+    go true e = cc
+    go false e = refl
 
 -- a number after a minus that is not 0
-pub negative-is : (n : ℕ) → (n ≡ 0 → ⊥) → negative (some n) ≡ some (negsuc (n - 1))
-negative-is zero h = absurd (h refl)
-negative-is (suc n) h = let e : n ≡ suc n - 1 = omega arith in ap (λ k. some (negsuc k)) e
+pub negative_is : (n k : ℕ) → 1 ≤ n → k ≡ n - 1 → negative (Some n) ≡ Some (negsuc k)
+negative_is zero k h e = absurd (omega arith)
+negative_is (suc n) k h e = let same : n ≡ k = omega arith in ap (λ k. Some (negsuc k)) same
+
+pub negative_zero : (n : ℕ) → (1 ≤ n → ⊥) → negative (Some n) ≡ None
+negative_zero zero h = refl
+negative_zero (suc n) h = absurd (h (omega arith))
 
 -- The form of a delay's word
 
-pub delay-none : (bs : List ℕ) → is_none bs ≡ true → delay_word bs ≡ some 256
-unfolding delay_word
-delay-none bs e = rw e
+pub delay_none : (bs : List ℕ) → true ≡ pointwise eqb bs (bytes "none") → delay_word bs ≡ Some 256
+unfolding delay_word starts_with
+delay_none bs e = rw (same_text bs (bytes "none") e)
 
-pub delay-number : (bs : List ℕ) → is_none bs ≡ false → delay_word bs ≡ number_up_to 255 bs
-unfolding delay_word
-delay-number bs e = rw e
+whole_compared : (bs name : List ℕ) → pointwise eqb bs name ≡ (starts_with name bs && eqb (length bs) (length name))
+unfolding starts_with
+whole_compared [] [] = refl
+whole_compared [] (n ∷ ns) = refl
+whole_compared (b ∷ bs) [] = sym (eqb-suc-zero (length bs))
+whole_compared (b ∷ bs) (n ∷ ns) =
+    let e = whole_compared bs ns in
+    let same : eqb b n ≡ eqb n b = grind arith in
+    let sizes : eqb (suc (length bs)) (suc (length ns)) ≡ eqb (length bs) (length ns) = grind arith in
+    let parts = and_assoc (eqb n b) (starts_with ns bs) (eqb (length bs) (length ns)) in
+    cc
 
-pub delay_fits : (bs : List ℕ) (n : ℕ) → some n ≡ delay_word bs → n ≤ 256
+pub delay_number : (bs : List ℕ) → false ≡ pointwise eqb bs (bytes "none") → delay_word bs ≡ number_up_to 255 bs
+unfolding delay_word
+delay_number bs e = rw (sym (whole_compared bs (bytes "none")), sym e)
+
+pub delay_fits : (bs : List ℕ) (n : ℕ) → Some n ≡ delay_word bs → n ≤ 256
 delay_fits bs n e = (delay-text bs n (sym e)).1

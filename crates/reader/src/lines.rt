@@ -1,57 +1,106 @@
-// Finding a line of a text and comparing its name.
-ghost use Rattle.std.specs.Prelude.{◌≡◌};
-ghost use Rattle.rules.specs.Text.{starts_with};
-ghost use Rattle.reader.specs.Lines.{LineEnd, NamedLineAt};
+// A text read line by line, a field on each line: the field's name and its value.
+ghost use Rattle.std.specs.Prelude.{◌≡◌, ◌+◌, ◌≤◌, List, ℕ, Option, OnOk, MatchResult, eqb, length, true, false, position};
+ghost use Rattle.rules.specs.Lists.{not_empty};
+ghost use Rattle.rules.specs.Text.{line_feed, place, field};
+ghost use Rattle.reader.specs.Lines.{NamedLine};
+ghost use Rattle.reader.specs.Readings.{reading, line_refused};
 
-// The line at a place: where its value starts and where the line ends, or that it is missing or has another name.
+use rules::answers::{Refusal, RefusalKind};
+use std::marker::Model;
+
+// The first line that breaks the form, from 1.
 #[derive(Clone, Copy)]
-pub enum NamedLine {
-    Missing,
-    From { start: usize, end: usize },
+pub struct BrokenLine {
+    pub line: u64,
 }
 
-// Whether a line starts with a name.
-pub fn starts_with(line: &[u8], name: &[u8]) -> bool
-    ensures { result ≡ starts_with name.now line.now }
-{
-    let mut i = 0;
-    while i < name.len() {
-        if line.len() <= i {
-            return false;
+impl From<BrokenLine> for Refusal {
+    ghost from_gives = { λ broken refusal. refusal ≡ line_refused broken };
+
+    fn from(broken: BrokenLine) -> Refusal {
+        Refusal {
+            kind: RefusalKind::TextNotInForm,
+            place: broken.line,
         }
-        if line[i] != name[i] {
-            return false;
-        }
-        i += 1;
     }
-    true
 }
 
-// The place of the first line feed from a place on. Where none is left, the answer is past the text.
-pub fn line_end(text: &[u8], at: usize) -> usize
-    ensures { LineEnd text.now at result }
-{
-    let mut i = at;
-    while i < text.len() {
-        if text[i] == b'\n' {
-            return i;
-        }
-        i += 1;
-    }
-    i
+// Where reading stands: the number of the next line, and the bytes from there on.
+#[derive(Drop)]
+pub struct Lines<'a> {
+    line: u64,
+    rest: &'a [u8],
 }
 
-// The value of the line at a place, which has this name.
-pub fn named_line(text: &[u8], at: usize, name: &[u8]) -> NamedLine
-    ensures { NamedLineAt text.now at name.now result }
+impl<'a> Model for Lines<'a> {
+    ghost use Rattle.std.specs.Prelude.{◌+◌, ◌<◌, ◌^◌, length};
+    ghost use Rattle.rules.specs.Text.{Place, place};
+
+    ghost Value = { Place };
+
+    ghost view = { λ s. place s.line s.rest.now };
+
+    ghost invariant = { λ s. s.line + length s.rest.now < 2 ^ 64 };
+}
+
+// The place of the first line feed.
+fn line_end(text: &[u8]) -> Option<usize>
+    ensures { result ≡ position (eqb line_feed) text.now }
 {
-    let end = line_end(text, at);
-    if text.len() <= end {
-        return NamedLine::Missing;
+    text.iter().position(|byte| b'\n' == *byte)
+}
+
+// The value of the first line, where it has this name, and the text after the line.
+#[tactic(auto, using(crate::proofs::LineSteps::line_missing, crate::proofs::LineSteps::line_other))]
+fn named_line<'a>(text: &'a [u8], name: &[u8]) -> Option<(&'a [u8], &'a [u8])>
+    ensures { NamedLine text.now name.now result }
+{
+    let end = line_end(text)?;
+    let value = text[..end].strip_prefix(name)?;
+    Some((value, &text[end + 1..]))
+}
+
+impl<'a> Lines<'a> {
+    // At the front of a text.
+    pub fn new(text: &'a [u8]) -> Self
+        ensures { result ≡ place 1 text.now }
+    {
+        Lines {
+            line: 1,
+            rest: text,
+        }
     }
-    if starts_with(&text[at..end], name) {
-        let start = at + name.len();
-        return NamedLine::From { start, end };
+
+    // Where nothing may follow: a line that does breaks the form.
+    pub fn end(&self) -> Result<(), BrokenLine>
+        ensures { MatchResult result (λ _. not_empty self.now.rest ≡ false) (λ e. (not_empty self.now.rest ≡ true) × (e.line ≡ self.now.line)) }
+    {
+        if self.rest.is_empty() {
+            Ok(())
+        } else {
+            Err(BrokenLine { line: self.line })
+        }
     }
-    NamedLine::Missing
+
+    // Reads the next line, a field with this name whose value has a form.
+    #[tactic(auto, using(crate::proofs::FieldSteps::field_missing, crate::proofs::FieldSteps::field_none, crate::proofs::FieldSteps::field_some))]
+    pub fn field<T: Drop, F: Fn(&[u8]) -> Option<T>>(
+        &mut self,
+        name: &[u8],
+        form: F,
+    ) -> Result<T, BrokenLine>
+        ghost value: { List ℕ → Option T }
+        requires callable { F.IsAlwaysCallable form }
+        requires computes { (bytes : _) (r : _) → F.post form bytes r → r ≡ value bytes.now }
+        ensures reads { reading result self.new ≡ field name.now value self.old }
+        ensures forward { OnOk result (length name.now + length self.new.rest + 1 ≤ length self.old.rest) }
+        ensures counted { MatchResult result (λ _. self.new.line ≡ self.old.line + 1) (λ e. e.line ≡ self.old.line) }
+    {
+        let broken = BrokenLine { line: self.line };
+        let (value, rest) = named_line(self.rest, name).ok_or(broken)?;
+        let found = form(value).ok_or(broken)?;
+        self.line += 1;
+        self.rest = rest;
+        Ok(found)
+    }
 }

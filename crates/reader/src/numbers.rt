@@ -1,114 +1,83 @@
-// A value's bytes as a number.
-ghost use Rattle.std.specs.Prelude.{◌≡◌, ◌-◌, ◌<◌, ◌≤◌, negsuc};
+// The forms of a value's bytes: numbers of several widths, and a delay's word.
+ghost use Rattle.std.specs.Prelude.{◌≡◌, ◌&&◌, eqb, length};
 ghost use Rattle.rules.specs.Bytes.{leading_zero, number_up_to, signed_number};
-ghost use Rattle.rules.specs.Text.{is_none, delay_word};
-ghost use Rattle.reader.specs.Readings.{number_option, signed_option};
-
-use crate::lines::starts_with;
-
-// A number, or that the bytes are not in its form.
-#[derive(Clone, Copy)]
-pub enum NumberRead {
-    NotInForm,
-    Number(u64),
-}
-
-#[derive(Clone, Copy)]
-pub enum SignedRead {
-    NotInForm,
-    Signed(i32),
-}
+ghost use Rattle.rules.specs.Text.{number64, byte, flag, delay_word};
 
 // Whether a zero stands before other digits.
 fn leading_zero(digits: &[u8]) -> bool
     ensures { result ≡ leading_zero digits.now }
 {
-    if digits.len() < 2 {
-        return false;
-    }
-    digits[0] == b'0'
+    digits.len() >= 2 && digits[0] == b'0'
 }
 
 // A number from 0 to the largest. The value only grows with more digits, so a part that is too large already is refused at once.
-pub fn number_up_to(digits: &[u8], most: u64) -> NumberRead
-    ensures { number_option result ≡ number_up_to most digits.now }
+#[tactic(auto, using(crate::proofs::NumberSteps::number_empty, crate::proofs::NumberSteps::number_leads, crate::proofs::NumberSteps::number_starts, crate::proofs::NumberSteps::stops_other, crate::proofs::NumberSteps::stops_large, crate::proofs::NumberSteps::goes_on, crate::proofs::NumberSteps::ends))]
+pub fn number_up_to(digits: &[u8], most: u64) -> Option<u64>
+    ensures { result ≡ number_up_to most digits.now }
 {
-    if digits.len() == 0 {
-        return NumberRead::NotInForm;
-    }
-    if leading_zero(digits) {
-        return NumberRead::NotInForm;
+    if digits.is_empty() || leading_zero(digits) {
+        return None;
     }
     let mut value: u64 = 0;
-    let mut i = 0;
-    while i < digits.len() {
-        let byte = digits[i];
-        if byte < b'0' {
-            return NumberRead::NotInForm;
+    for byte in digits {
+        if !byte.is_ascii_digit() {
+            return None;
         }
-        if b'9' < byte {
-            return NumberRead::NotInForm;
+        let digit = (*byte - b'0') as u64;
+        value = value.checked_mul(10)?.checked_add(digit)?;
+        if most < value {
+            return None;
         }
-        let digit = (byte - b'0') as u64;
-        if most < digit {
-            return NumberRead::NotInForm;
-        }
-        if (most - digit) / 10 < value {
-            return NumberRead::NotInForm;
-        }
-        value = 10 * value + digit;
-        i += 1;
     }
-    NumberRead::Number(value)
+    Some(value)
 }
 
-// The number after a minus.
-fn negated(n: u64) -> i32
-    requires { (0 < n) × (n ≤ 2147483648) }
-    ensures { result ≡ negsuc (n - 1) }
+// A count or an id.
+pub fn number64(digits: &[u8]) -> Option<u64>
+    ensures { result ≡ number64 digits.now }
 {
-    let less = (n - 1) as i32;
-    -1 - less
+    number_up_to(digits, u64::MAX)
+}
+
+// A kind or a transfer.
+#[tactic(auto, using(crate::proofs::NumberSteps::number_fits))]
+pub fn byte(digits: &[u8]) -> Option<u8>
+    ensures { result ≡ byte digits.now }
+{
+    let value = number_up_to(digits, 255)?;
+    Some(value as u8)
+}
+
+// Whether a repeater is locked: 0 or 1.
+#[tactic(auto, using(crate::proofs::NumberSteps::number_fits))]
+pub fn flag(digits: &[u8]) -> Option<u8>
+    ensures { result ≡ flag digits.now }
+{
+    let value = number_up_to(digits, 1)?;
+    Some(value as u8)
 }
 
 // A number of signed 32 bits. `-0` is none.
-pub fn signed_number(digits: &[u8]) -> SignedRead
-    ensures { signed_option result ≡ signed_number digits.now }
+#[tactic(auto, using(crate::proofs::NumberSteps::number_fits, crate::proofs::NumberSteps::signed_minus, crate::proofs::NumberSteps::signed_plain, crate::proofs::NumberSteps::negative_is, crate::proofs::NumberSteps::negative_zero, crate::proofs::SignedSteps::pos_fits, crate::proofs::SignedSteps::negated_is, crate::proofs::SignedSteps::plain_is))]
+pub fn signed_number(digits: &[u8]) -> Option<i32>
+    ensures { result ≡ signed_number digits.now }
 {
-    if digits.len() == 0 {
-        return SignedRead::NotInForm;
+    if let Some(size) = digits.strip_prefix(b"-") {
+        let less = number_up_to(size, 2147483648)?.checked_sub(1)?;
+        return Some(-1 - less as i32);
     }
-    if digits[0] == b'-' {
-        let NumberRead::Number(size) = number_up_to(&digits[1..], 2147483648) else {
-            return SignedRead::NotInForm;
-        };
-        if size == 0 {
-            return SignedRead::NotInForm;
-        }
-        return SignedRead::Signed(negated(size));
-    }
-    let NumberRead::Number(size) = number_up_to(digits, 2147483647) else {
-        return SignedRead::NotInForm;
-    };
-    SignedRead::Signed(size as i32)
-}
-
-// Whether the bytes are `none`.
-fn is_none(digits: &[u8]) -> bool
-    ensures { result ≡ is_none digits.now }
-{
-    if starts_with(digits, b"none") {
-        return digits.len() == 4;
-    }
-    false
+    let size = number_up_to(digits, 2147483647)?;
+    Some(size as i32)
 }
 
 // A delay's word: `none` is 256.
-pub fn delay_word(digits: &[u8]) -> NumberRead
-    ensures { number_option result ≡ delay_word digits.now }
+#[tactic(auto, using(crate::proofs::NumberSteps::delay_none, crate::proofs::NumberSteps::delay_number))]
+pub fn delay_word(digits: &[u8]) -> Option<u16>
+    ensures { result ≡ delay_word digits.now }
 {
-    if is_none(digits) {
-        return NumberRead::Number(256);
+    if digits == b"none".as_slice() {
+        return Some(256);
     }
-    number_up_to(digits, 255)
+    let delay = byte(digits)?;
+    Some(delay as u16)
 }

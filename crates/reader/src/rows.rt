@@ -1,10 +1,10 @@
 // The rows of a scene's text: a line for each field, in this order.
-ghost use Rattle.reader.specs.Readings.{ComponentReadAt, ConnectionReadAt};
+ghost use Rattle.std.specs.Prelude.{◌≡◌, ◌+◌, ◌≤◌, OnOk, IfErr, length};
+ghost use Rattle.rules.specs.Text.{component, connection};
+ghost use Rattle.reader.specs.Readings.{reading_as, component_of, connection_of};
 
-use crate::fields::{FieldRead, SignedFieldRead, delay_field, number_field, signed_field};
-
-// The largest of 64 bits, which counts and ids have.
-const LARGEST: u64 = u64::MAX;
+use crate::lines::{BrokenLine, Lines};
+use crate::numbers::{byte, delay_word, flag, number64, signed_number};
 
 #[derive(Clone, Copy)]
 pub struct ComponentRow {
@@ -24,101 +24,44 @@ pub struct ConnectionRow {
     pub transfer: u8,
 }
 
-// A row and the place after it, or how many of its lines were read before the one that breaks the form.
-#[derive(Clone, Copy)]
-pub enum ComponentRead {
-    Broken { done: u64 },
-    Read { row: ComponentRow, next: usize },
-}
-
-#[derive(Clone, Copy)]
-pub enum ConnectionRead {
-    Broken { done: u64 },
-    Read { row: ConnectionRow, next: usize },
-}
-
-// Reads a component's seven lines from a place on.
-pub fn read_component(text: &[u8], at: usize) -> ComponentRead
-    ensures { ComponentReadAt text.now at result }
+// Reads a component's seven lines.
+#[tactic(auto, unfolding(rules::specs::Text::component, rules::specs::Text::and_then))]
+pub fn read_component(lines: &mut Lines<'_>) -> Result<ComponentRow, BrokenLine>
+    ensures reads { reading_as component_of result lines.new ≡ component lines.old }
+    ensures forward { OnOk result (34 + length lines.new.rest ≤ length lines.old.rest) }
+    ensures within { IfErr result (λ e. (lines.old.line ≤ e.line) × (e.line ≤ 6 + lines.old.line)) }
 {
-    let FieldRead::Value {
-        value: id,
-        next: at,
-    } = number_field(text, at, b"id=", LARGEST)
-    else {
-        return ComponentRead::Broken { done: 0 };
-    };
-    let FieldRead::Value {
-        value: kind,
-        next: at,
-    } = number_field(text, at, b"kind=", 255)
-    else {
-        return ComponentRead::Broken { done: 1 };
-    };
-    let FieldRead::Value {
-        value: delay,
-        next: at,
-    } = delay_field(text, at, b"delay=")
-    else {
-        return ComponentRead::Broken { done: 2 };
-    };
-    let FieldRead::Value {
-        value: locked,
-        next: at,
-    } = number_field(text, at, b"locked=", 1)
-    else {
-        return ComponentRead::Broken { done: 3 };
-    };
-    let SignedFieldRead::Value { value: x, next: at } = signed_field(text, at, b"x=") else {
-        return ComponentRead::Broken { done: 4 };
-    };
-    let SignedFieldRead::Value { value: y, next: at } = signed_field(text, at, b"y=") else {
-        return ComponentRead::Broken { done: 5 };
-    };
-    let SignedFieldRead::Value { value: z, next: at } = signed_field(text, at, b"z=") else {
-        return ComponentRead::Broken { done: 6 };
-    };
-    let row = ComponentRow {
+    let id = lines.field(b"id=", number64)?;
+    let kind = lines.field(b"kind=", byte)?;
+    let delay = lines.field(b"delay=", delay_word)?;
+    let locked = lines.field(b"locked=", flag)?;
+    let x = lines.field(b"x=", signed_number)?;
+    let y = lines.field(b"y=", signed_number)?;
+    let z = lines.field(b"z=", signed_number)?;
+    Ok(ComponentRow {
         id,
-        kind: kind as u8,
-        delay: delay as u16,
-        locked: locked as u8,
+        kind,
+        delay,
+        locked,
         x,
         y,
         z,
-    };
-    ComponentRead::Read { row, next: at }
+    })
 }
 
-// Reads a connection's three lines from a place on.
-pub fn read_connection(text: &[u8], at: usize) -> ConnectionRead
-    ensures { ConnectionReadAt text.now at result }
+// Reads a connection's three lines.
+#[tactic(auto, unfolding(rules::specs::Text::connection, rules::specs::Text::and_then))]
+pub fn read_connection(lines: &mut Lines<'_>) -> Result<ConnectionRow, BrokenLine>
+    ensures reads { reading_as connection_of result lines.new ≡ connection lines.old }
+    ensures forward { OnOk result (24 + length lines.new.rest ≤ length lines.old.rest) }
+    ensures within { IfErr result (λ e. (lines.old.line ≤ e.line) × (e.line ≤ 2 + lines.old.line)) }
 {
-    let FieldRead::Value {
-        value: source,
-        next: at,
-    } = number_field(text, at, b"source=", LARGEST)
-    else {
-        return ConnectionRead::Broken { done: 0 };
-    };
-    let FieldRead::Value {
-        value: sink,
-        next: at,
-    } = number_field(text, at, b"sink=", LARGEST)
-    else {
-        return ConnectionRead::Broken { done: 1 };
-    };
-    let FieldRead::Value {
-        value: transfer,
-        next: at,
-    } = number_field(text, at, b"transfer=", 255)
-    else {
-        return ConnectionRead::Broken { done: 2 };
-    };
-    let row = ConnectionRow {
+    let source = lines.field(b"source=", number64)?;
+    let sink = lines.field(b"sink=", number64)?;
+    let transfer = lines.field(b"transfer=", byte)?;
+    Ok(ConnectionRow {
         source,
         sink,
-        transfer: transfer as u8,
-    };
-    ConnectionRead::Read { row, next: at }
+        transfer,
+    })
 }

@@ -2,6 +2,7 @@
 pub mod Fitting
 pub mod ListingSteps
 pub mod PatternSteps
+pub mod OwnReasons
 pub mod RowSteps
 pub mod SumSteps
 -- what they find, put together, and what it is of a scene:

@@ -1,46 +1,34 @@
 -- Delays, path sums and labels, step by step. Assumes nothing.
-use mathlib.Core.Bool.{Bool, true, false, cond}
+use mathlib.Core.Bool.{Bool, true, cond}
 use mathlib.Core.List.{List, [], ◌∷◌, ◌++◌, map, map-map, map-append}
 use mathlib.Core.Path.{◌≡◌, refl, sym, ap, ap₂, subst, fun_ext, ◌∙◌}
 use mathlib.Core.Logic.{⊎_elim}
 use Prim.Native.Nat.{ℕ, ◌+◌, ◌<◌, ◌≤◌}
 use native.Mathlib.Omega.{arith}
 use native.Mathlib.Nat.{add-zero}
-use lib.Dec.{T, eqb}
-use lib.ListN.{length, get_or, take, drop, set, length-map, get_or-eq_default}
+use borrow.Author.Tests.{ne_eqb}
+use lib.Dec.{eqb}
+use Rattle.std.specs.Prelude.{Option, Some, is_some}
+use Rattle.std.proofs.lemmas.List.{set-get_or}
+use lib.ListN.{length, get_or, drop, set, length-map, get_or-eq_default}
 use lib.Seq.{drop_at, get_or-drop, get_or-append-add}
 use Rattle.rules.specs.Lists.{from, indices, written}
 use Rattle.rules.specs.Kinds.{kind_row, delay_by, component_delay}
 use Rattle.rules.specs.Ordered.{key_at}
 use Rattle.rules.specs.Graph.{Edge, edges_between, settled}
 use Rattle.rules.specs.Paths.{smallest_sum, largest_sum}
-use Rattle.rules.specs.Labels.{Label, unsettled, between, label, settled_flag, low_sum, high_sum}
+use Rattle.rules.specs.Labels.{Label, label, settled_flag, low_sum, high_sum}
 use Rattle.rules.specs.Refusals.{scene_limits}
-use Rattle.rules.proofs.Lists.{chosen, map_same}
+use Rattle.rules.proofs.Lists.{map_same}
 use Rattle.rules.proofs.Sums.{order}
 use Rattle.rules.proofs.Indices.{made-length, made_at, indices-below, indices-more}
-use Rattle.rules.proofs.Written.{written-parts, written-front, written_at, written_none, written-more}
+use Rattle.rules.proofs.Written.{written-parts, written_at, written_none, written-more}
 use Rattle.laws.proofs.PositionEdges.{inside-sources, inside-sinks}
 use Rattle.graph.specs.Groups.{Between}
 use Rattle.reconvergence.specs.Fits.{reconvergence_fits, settled_marks, ReconvergentDelays}
 use Rattle.reconvergence.proofs.Fitting.{→fits}
-use Rattle.reconvergence.specs.declared.Reconverged.{Reconverged}
 use Rattle.reasons.specs.Over.{position_delay}
-use Rattle.reasons.specs.Sums.{Summable, PathsSummed, cleared_sum}
-
--- Lists that are written entry by entry
-
-module _ (f : ℕ → ℕ) (old : List ℕ) where
-  pub made-start : old ≡ written old (map f (indices 0))
-  unfolding indices from
-  made-start = sym (written_none old)
-
-  pub made_more : (i : ℕ) (now : List ℕ) (x : ℕ) → i < length old → now ≡ written old (map f (indices i)) → x ≡ f i → set now i x ≡ written old (map f (indices (i + 1)))
-  made_more i now x h e q =
-      ap₂ (λ l m. set l m x) e (sym (made-length f i))
-      ∙ ap (set (written old (map f (indices i))) (length (map f (indices i)))) q
-      ∙ sym (written-more old (map f (indices i)) (f i) (omega (arith, made-length f i)))
-      ∙ ap (written old) (sym (ap (map f) (indices-more i) ∙ map-append f (indices i) (i ∷ [])))
+use Rattle.reasons.specs.Sums.{LabelColumns, label_columns, Summable, PathsSummed, cleared_sum, Cleared}
 
 -- The column of delays
 
@@ -53,32 +41,28 @@ module _ (kinds words : List ℕ) where
   unfolding position_delay component_delay kind_row delay_by
   no-delay i h = rw (get_or-eq_default kinds 0 h)
 
-  delays-all : length words ≡ length kinds → (i : ℕ) → key_at column i ≡ position_delay kinds words i
-  delays-all e i =
+  pub delays-all : (i : ℕ) → key_at column i ≡ position_delay kinds words i
+  delays-all i =
       ⊎_elim (λ h. get_or-eq_default column 0 (omega (arith, made-length (position_delay kinds words) (length kinds))) ∙ no-delay i h)
       (λ h. made_at (position_delay kinds words) (length kinds) i 0 h) (order (length kinds) i)
 
-  pub fill_more : (old : List ℕ) (i : ℕ) (now : List ℕ) (x : ℕ) → i < length old → now ≡ written old (map (position_delay kinds words) (indices i)) → x ≡ component_delay (get_or kinds i 0) (get_or words i 0)
-      → set now i x ≡ written old (map (position_delay kinds words) (indices (i + 1)))
+  pub delay-next : (i : ℕ) → i < length kinds → get_or column i 0 ≡ component_delay (get_or kinds i 0) (get_or words i 0)
   unfolding position_delay
-  fill_more old i now x h e q = made_more (position_delay kinds words) old i now x h e q
+  delay-next i h = made_at (position_delay kinds words) (length kinds) i 0 h
 
-  pub by-delays : (es : List Edge) (delays : List ℕ) {order settles smallest largest unequal settles' smallest' largest' unequal' : List ℕ} {r : ℕ} (old : List ℕ) → length words ≡ length kinds → delays ≡ written old column
-      → PathsSummed es (key_at (take (length kinds) delays)) (length kinds) order settles smallest largest unequal settles' smallest' largest' unequal' r
-      → PathsSummed es (position_delay kinds words) (length kinds) order settles smallest largest unequal settles' smallest' largest' unequal' r
-  by-delays es delays {order} {settles} {smallest} {largest} {unequal} {settles'} {smallest'} {largest'} {unequal'} {r} old e q p =
-      subst (λ d. PathsSummed es d (length kinds) order settles smallest largest unequal settles' smallest' largest' unequal' r) (ap key_at front ∙ fun_ext (delays-all e)) p
-    where
-      front : take (length kinds) delays ≡ column
-      front = ap (take (length kinds)) q ∙ written-front old column (length kinds) (made-length (position_delay kinds words) (length kinds))
+  pub by-delays : {es : List Edge} {delays order unequal unequal' : List ℕ} {labels labels' : LabelColumns} {r : ℕ} → delays ≡ column
+      → PathsSummed es (key_at delays) (length delays) order labels unequal labels' unequal' r → PathsSummed es (position_delay kinds words) (length kinds) order labels unequal labels' unequal' r
+  by-delays {es} {delays} {order} {unequal} {unequal'} {labels} {labels'} {r} e p =
+      subst (λ n. PathsSummed es (position_delay kinds words) n order labels unequal labels' unequal' r) (ap length e ∙ made-length (position_delay kinds words) (length kinds))
+      (subst (λ d. PathsSummed es d (length delays) order labels unequal labels' unequal' r) (ap key_at e ∙ fun_ext delays-all) p)
 
 -- The call for the path sums
 
-module _ (n : ℕ) (starts stops order settles smallest largest unequal : List ℕ) (asked : Summable n starts stops order settles smallest largest unequal) where
+module _ (n : ℕ) (starts stops order : List ℕ) (labels : LabelColumns) (unequal : List ℕ) (asked : Summable n starts stops order labels unequal) where
   -- lists to work in are as long as the limits of a scene
   abbrev fits : Bool
   fits =
-      reconvergence_fits starts stops order n n (length settles) (length smallest) (length largest) (length unequal)
+      reconvergence_fits starts stops order n n (length labels.settled) (length labels.lows) (length labels.highs) (length unequal)
       scene_limits.components scene_limits.connections scene_limits.components scene_limits.components scene_limits.components
 
   sums-fit : fits ≡ true
@@ -91,21 +75,25 @@ module _ (n : ℕ) (starts stops order settles smallest largest unequal : List �
         work = record { heads = l.nodes_few; links = l.edges_few; incomings = l.nodes_few; lefts = l.nodes_few; places = l.nodes_few };
       }
 
-module _ (delays : List ℕ) (n : ℕ) (size : length delays ≡ n) (starts stops order settles smallest largest unequal : List ℕ) (asked : Summable n starts stops order settles smallest largest unequal) where
-  pub sums-found : {head next incoming left queue settles' smallest' largest' unequal' head' next' incoming' left' queue' : List ℕ} {r : Reconverged}
-      → length head ≡ scene_limits.components → length next ≡ scene_limits.connections → length incoming ≡ scene_limits.components → length left ≡ scene_limits.components → length queue ≡ scene_limits.components
-      → ReconvergentDelays starts stops delays delays order settles smallest largest unequal head next incoming left queue settles' smallest' largest' unequal' head' next' incoming' left' queue' r
-      → PathsSummed (edges_between starts stops) (key_at delays) n order settles smallest largest unequal settles' smallest' largest' unequal' r.unequal
-  unfolding settled_marks
-  sums-found {r} h i j k l p =
-      let t : T r.fits = subst T (sym (rw (h, i, j, k, l, size) at p.answer ∙ sums-fit n starts stops order settles smallest largest unequal asked)) tt in
-      rw (← size) (record {
-        settled_marked = p.settles ∙ chosen _ _ r.fits t;
-        smallest_found = p.smallests ∙ chosen _ _ r.fits t;
-        largest_found = p.largests ∙ chosen _ _ r.fits t;
-        unequal_listed = p.lists ∙ chosen _ _ r.fits t;
-        unequal_counted = p.counts ∙ chosen _ _ r.fits t;
-      })
+module _ (delays starts stops order : List ℕ) (labels : LabelColumns) (unequal : List ℕ) (asked : Summable (length delays) starts stops order labels unequal) where
+  -- the call with such lists to work in, and what it answers
+  module _ {head next incoming left queue unequal' head' next' incoming' left' queue' : List ℕ} {labels' : LabelColumns} {r : Option ℕ}
+      (h : length head ≡ scene_limits.components) (i : length next ≡ scene_limits.connections) (j : length incoming ≡ scene_limits.components) (k : length left ≡ scene_limits.components) (l : length queue ≡ scene_limits.components)
+      (p : ReconvergentDelays starts stops delays delays order labels.settled labels.lows labels.highs unequal head next incoming left queue labels'.settled labels'.lows labels'.highs unequal' head' next' incoming' left' queue' r) where
+    pub sums-some : is_some r ≡ true
+    sums-some = rw (h, i, j, k, l) at p.answer ∙ sums-fit (length delays) starts stops order labels unequal asked
+
+    pub sums-found : {n : ℕ} → r ≡ Some n → PathsSummed (edges_between starts stops) (key_at delays) (length delays) order labels unequal labels' unequal' n
+    unfolding settled_marks
+    sums-found {n} e =
+        let q = rw e at p in
+        record {
+          settled_marked = q.settles;
+          smallest_found = q.smallests;
+          largest_found = q.largests;
+          unequal_listed = q.lists;
+          unequal_counted = q.counts;
+        }
 
 -- Sums set to 0 one by one where a component is not settled
 
@@ -118,14 +106,49 @@ past-written old new k e =
     ∙ get_or-drop (length new) old 0 0
     ∙ ap (λ m. get_or old m 0) (add-zero (length new) ∙ e)
 
-module _ (settles old : List ℕ) where
-  abbrev pub cleared : ℕ → List ℕ
-  cleared i = map (cleared_sum settles old) (indices i)
+-- one entry more
+module _ (f : ℕ → ℕ) (old : List ℕ) where
+  made_more : (i : ℕ) (now : List ℕ) (x : ℕ) → i < length old → now ≡ written old (map f (indices i)) → x ≡ f i → set now i x ≡ written old (map f (indices (i + 1)))
+  made_more i now x h e q =
+      ap₂ (λ l m. set l m x) e (sym (made-length f i))
+      ∙ ap (set (written old (map f (indices i))) (length (map f (indices i)))) q
+      ∙ sym (written-more old (map f (indices i)) (f i) (omega (arith, made-length f i)))
+      ∙ ap (written old) (sym (ap (map f) (indices-more i) ∙ map-append f (indices i) (i ∷ [])))
 
-  pub clear-more : (i : ℕ) (now : List ℕ) (x : ℕ) → i < length old → now ≡ written old (cleared i) → x ≡ cond (eqb (get_or settles i 0) 0) 0 (get_or now i 0) → set now i x ≡ written old (cleared (i + 1))
-  clear-more i now x h e q =
-      let same : get_or now i 0 ≡ get_or old i 0 = ap (λ l. get_or l i 0) e ∙ past-written old (cleared i) i (made-length (cleared_sum settles old) i) in
-      made_more (cleared_sum settles old) old i now x h e (q ∙ ap (λ v. cond (eqb (get_or settles i 0) 0) 0 v) same)
+module _ (settles old : List ℕ) (i : ℕ) (now : List ℕ) (h : i < length old) (e : now ≡ written old (map (cleared_sum settles old) (indices i))) where
+  still : get_or now i 0 ≡ get_or old i 0
+  still = ap (λ l. get_or l i 0) e ∙ past-written old (map (cleared_sum settles old) (indices i)) i (made-length (cleared_sum settles old) i)
+
+  clear-more : get_or settles i 0 ≡ 0 → set now i 0 ≡ written old (map (cleared_sum settles old) (indices (i + 1)))
+  clear-more z = made_more (cleared_sum settles old) old i now 0 h e (rw z)
+
+  keep-more : (get_or settles i 0 ≡ 0 → ⊥) → now ≡ written old (map (cleared_sum settles old) (indices (i + 1)))
+  keep-more z = sym (set-get_or now i 0) ∙ made_more (cleared_sum settles old) old i now (get_or now i 0) h e (rw (ne_eqb _ _ z) still)
+
+-- all sums of the first components
+module _ (labels : LabelColumns) where
+  pub cleared-none : Cleared 0 labels labels
+  unfolding indices from
+  cleared-none = record { flags_kept = refl; lows_cleared = sym (written_none labels.lows); highs_cleared = sym (written_none labels.highs) }
+
+  module _ (v : ℕ) (now : LabelColumns) (low : v < length labels.lows) (high : v < length labels.highs) (was : Cleared v labels now) where
+    pub cleared-more : get_or now.settled v 0 ≡ 0 → Cleared (v + 1) labels (label_columns now.settled (set now.lows v 0) (set now.highs v 0))
+    cleared-more z =
+        let y = rw was.flags_kept at z in
+        record {
+          flags_kept = was.flags_kept;
+          lows_cleared = clear-more labels.settled labels.lows v now.lows low was.lows_cleared y;
+          highs_cleared = clear-more labels.settled labels.highs v now.highs high was.highs_cleared y;
+        }
+
+    pub cleared-same : (get_or now.settled v 0 ≡ 0 → ⊥) → Cleared (v + 1) labels now
+    cleared-same z =
+        let y = rw was.flags_kept at z in
+        record {
+          flags_kept = was.flags_kept;
+          lows_cleared = keep-more labels.settled labels.lows v now.lows low was.lows_cleared y;
+          highs_cleared = keep-more labels.settled labels.highs v now.highs high was.highs_cleared y;
+        }
 
 -- Labels
 
@@ -144,11 +167,7 @@ module _ (es : List Edge) (d : ℕ → ℕ) (n : ℕ) (settles : List ℕ) where
 
   flag-of : (v : ℕ) → mark v ≡ settled_flag (label es d d v)
   unfolding label
-  flag-of v = go (settled es v)
-    where
-      go : (b : Bool) → cond b 1 0 ≡ settled_flag (cond b (between (smallest_sum es d v) (largest_sum es d v)) unsettled)
-      go true = refl
-      go false = refl
+  flag-of v = grind arith
 
   -- the marks are the labels' flags
   pub flags-written : (old : List ℕ) → settles ≡ written old (map mark (indices n)) → settles ≡ written old (map settled_flag (map (label es d d) (indices n)))
@@ -156,8 +175,7 @@ module _ (es : List Edge) (d : ℕ → ℕ) (n : ℕ) (settles : List ℕ) where
 
   -- a sum is the label's, or 0 where there is none
   clear-mark : (b : Bool) (x : ℕ) → cond (eqb (cond b 1 0) 0) 0 x ≡ cond b x 0
-  clear-mark true x = refl
-  clear-mark false x = refl
+  clear-mark b x = grind arith
 
   module _ (sum : ℕ → ℕ) (field : Label → ℕ) (shown : (v : ℕ) → field (label es d d v) ≡ cond (settled es v) (sum v) 0) where
     pub sums-written : (marks old raw sums : List ℕ) → settles ≡ written marks (map mark (indices n)) → raw ≡ written old (map sum (indices n)) → sums ≡ written raw (map (cleared_sum settles raw) (indices n))
@@ -176,16 +194,8 @@ module _ (es : List Edge) (d : ℕ → ℕ) (n : ℕ) (settles : List ℕ) where
 
 pub low-shown : (es : List Edge) (d : ℕ → ℕ) (v : ℕ) → low_sum (label es d d v) ≡ cond (settled es v) (smallest_sum es d v) 0
 unfolding label
-low-shown es d v = go (settled es v)
-  where
-    go : (b : Bool) → low_sum (cond b (between (smallest_sum es d v) (largest_sum es d v)) unsettled) ≡ cond b (smallest_sum es d v) 0
-    go true = refl
-    go false = refl
+low-shown es d v = grind arith
 
 pub high-shown : (es : List Edge) (d : ℕ → ℕ) (v : ℕ) → high_sum (label es d d v) ≡ cond (settled es v) (largest_sum es d v) 0
 unfolding label
-high-shown es d v = go (settled es v)
-  where
-    go : (b : Bool) → high_sum (cond b (between (smallest_sum es d v) (largest_sum es d v)) unsettled) ≡ cond b (largest_sum es d v) 0
-    go true = refl
-    go false = refl
+high-shown es d v = grind arith

@@ -1,10 +1,11 @@
 -- List 3, column by column, and what its reasons are made of. Assumes nothing: these are definitions.
-use Rattle.std.specs.Prelude.{Bool, true, false, cond, ◌≡◌, ℕ, ◌+◌, ◌<◌, ◌≤◌, pos, length, get_or, set}
-use mathlib.Core.List.{List, [], ◌∷◌, map, flat_map}
+use Rattle.std.specs.Prelude.{◌≡◌, ℕ, ◌+◌, ◌≤◌, pos, length, get_or, set}
+use mathlib.Core.List.{List, map, flat_map}
 use Rattle.rules.specs.Lists.{written_from, indices}
 use Rattle.rules.specs.Ordered.{key_at}
 use Rattle.rules.specs.Positions.{id_at}
 use Rattle.rules.specs.Scene.{Component}
+use Rattle.graph.specs.Adjacency.{Below}
 use Rattle.rules.specs.Reasons.{Reason, unequal_reconvergent_delay, own_reason, reason_kind, reason_component, reason_block, reason_minimum, reason_maximum}
 
 -- the columns of list 3
@@ -26,19 +27,13 @@ pub record ReasonRoom (n : ℕ) (old : Columns) : Type 0 where
   pub minimum_room : n ≤ length old.minimums
   pub maximum_room : n ≤ length old.maximums
 
--- the reasons are one, with these fields, where it stands, and none where it does not
-pub record OneReason (rs : List Reason) (stands : Bool) (kind component block minimum maximum : ℕ) : Type 0 where
-  pub none : stands ≡ false → rs ≡ []
-  pub one : stands ≡ true → (r : Reason) × (rs ≡ r ∷ []) × (reason_kind r ≡ kind) × (reason_component r ≡ component) × (reason_block r ≡ block) × (reason_minimum r ≡ minimum) × (reason_maximum r ≡ maximum)
-
--- an entry is put in a place of the columns, where it stands; r is the next place
-pub record ReasonPut (at : ℕ) (stands : Bool) (kind component block minimum maximum : ℕ) (old new : Columns) (r : ℕ) : Type 0 where
-  pub kind_put : new.kinds ≡ cond stands (set old.kinds at kind) old.kinds
-  pub component_put : new.components ≡ cond stands (set old.components at component) old.components
-  pub block_put : new.blocks ≡ cond stands (set old.blocks at block) old.blocks
-  pub minimum_put : new.minimums ≡ cond stands (set old.minimums at minimum) old.minimums
-  pub maximum_put : new.maximums ≡ cond stands (set old.maximums at maximum) old.maximums
-  pub next : r ≡ cond stands (at + 1) at
+-- a reason is put in a place of the columns
+pub record ReasonPut (at : ℕ) (reason : Reason) (old new : Columns) : Type 0 where
+  pub kind_put : new.kinds ≡ set old.kinds at (reason_kind reason)
+  pub component_put : new.components ≡ set old.components at (reason_component reason)
+  pub block_put : new.blocks ≡ set old.blocks at (reason_block reason)
+  pub minimum_put : new.minimums ≡ set old.minimums at (reason_minimum reason)
+  pub maximum_put : new.maximums ≡ set old.maximums at (reason_maximum reason)
 
 -- reasons are written to the columns from a place on
 pub record ReasonsWritten (start : ℕ) (rs : List Reason) (old new : Columns) : Type 0 where
@@ -65,9 +60,8 @@ own_reasons ids kinds locked n = flat_map (λ i. own_reason (plain (get_or ids i
 abbrev pub unequal_row : (ids smallest largest : List ℕ) → ℕ → Reason
 unequal_row ids smallest largest i = unequal_reconvergent_delay (id_at ids i) (key_at smallest i) (key_at largest i)
 
--- the first positions are of components, which have sums
-pub record UnequalAsked (ids smallest largest unequal : List ℕ) (count : ℕ) : Type 0 where
-  pub listed : count ≤ length unequal
-  pub positions : (k : ℕ) → k < count → get_or unequal k 0 < length ids
+-- the positions are of components, which have sums
+pub record UnequalAsked (ids smallest largest unequal : List ℕ) : Type 0 where
+  pub positions : Below (length ids) unequal
   pub smallest_room : length ids ≤ length smallest
   pub largest_room : length ids ≤ length largest

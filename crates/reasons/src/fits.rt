@@ -1,131 +1,82 @@
-// Whether the lists of an assessment fit, test by test. Lists of which only the length counts are given by it.
-ghost use Rattle.std.specs.Prelude.{◌≡◌};
-ghost use Rattle.reasons.specs.Fits.{edges_fit, components_fit, order_fits, reasons_room, labels_room, reasons_fit};
+// Whether the lists of an assessment fit, test by test.
+ghost use Rattle.std.specs.Prelude.{◌≡◌, length, leb};
+ghost use Rattle.std.specs.List.{list_all};
+ghost use Rattle.rules.specs.Lent.{components_lent};
+ghost use Rattle.reasons.specs.Fits.{edges_fit, components_fit, order_fits, reasons_fit};
+ghost use Rattle.reasons.specs.Lent.{reasons_lent, labels_lent};
 
 use graph::adjacency::ends_below;
+use graph::edges::Edges;
+use rules::lent::{Components, LabelLists, ReasonLists};
 use rules::limits::{MAX_COMPONENTS, MAX_CONNECTIONS};
 
 // Whether all of them fit.
+#[tactic(auto, unfolding(crate::specs::Fits::reasons_fit, crate::specs::Fits::reasons_room, crate::specs::Fits::labels_room))]
 pub(crate) fn reasons_fit(
-    starts: &[usize],
-    stops: &[usize],
+    components: &Components<'_>,
+    edges: &Edges<'_>,
     order: &[usize],
-    n: usize,
-    kinds: usize,
-    delays: usize,
-    locked: usize,
-    reason_kinds: usize,
-    reason_components: usize,
-    reason_blocks: usize,
-    reason_minimums: usize,
-    reason_maximums: usize,
-    feedback: usize,
-    settled: usize,
-    lows: usize,
-    highs: usize,
+    reasons: &ReasonLists<'_>,
+    feedback_ids: &[u64],
+    labels: &LabelLists<'_>,
 ) -> bool
-    ensures { result ≡ reasons_fit starts.now stops.now order.now n kinds delays locked reason_kinds reason_components reason_blocks reason_minimums reason_maximums feedback settled lows highs }
+    ensures { result ≡ reasons_fit (components_lent components.now) edges.now.sources.now edges.now.sinks.now order.now (reasons_lent reasons.now) feedback_ids.now (labels_lent labels.now) }
 {
-    if components_fit(n, kinds, delays, locked) {
-        if edges_fit(starts, stops, n) {
-            if order_fits(order, n) {
-                if reasons_room(
-                    2 * n + 1,
-                    reason_kinds,
-                    reason_components,
-                    reason_blocks,
-                    reason_minimums,
-                    reason_maximums,
-                ) {
-                    return labels_room(n, feedback, settled, lows, highs);
-                }
-            }
-        }
-    }
-    false
+    let n = components.ids.len();
+    let reason_lengths = [
+        reasons.kinds.len(),
+        reasons.components.len(),
+        reasons.blocks.len(),
+        reasons.minimums.len(),
+        reasons.maximums.len(),
+    ];
+    let label_lengths = [
+        feedback_ids.len(),
+        labels.settled.len(),
+        labels.lows.len(),
+        labels.highs.len(),
+    ];
+    components_fit(components)
+        && edges_fit(edges, n)
+        && order_fits(order, n)
+        && have_room(&reason_lengths, 2 * n + 1)
+        && have_room(&label_lengths, n)
 }
 
 // Whether each component has a kind, a delay word and a flag, and there are not too many.
-fn components_fit(n: usize, kinds: usize, delays: usize, locked: usize) -> bool
-    ensures { result ≡ components_fit n kinds delays locked }
+#[tactic(auto, unfolding(crate::specs::Fits::components_fit))]
+fn components_fit(components: &Components<'_>) -> bool
+    ensures { result ≡ components_fit (components_lent components.now) }
 {
-    if kinds != n {
-        return false;
-    }
-    if delays != n {
-        return false;
-    }
-    if locked != n {
-        return false;
-    }
-    n <= MAX_COMPONENTS
+    let n = components.ids.len();
+    components.kinds.len() == n
+        && components.delays.len() == n
+        && components.locked.len() == n
+        && n <= MAX_COMPONENTS
 }
 
 // Whether the edges are between n positions, and not too many.
-pub(crate) fn edges_fit(starts: &[usize], stops: &[usize], n: usize) -> bool
-    ensures { result ≡ edges_fit starts.now stops.now n }
+#[tactic(auto, unfolding(crate::specs::Fits::edges_fit))]
+pub(crate) fn edges_fit(edges: &Edges<'_>, n: usize) -> bool
+    ensures { result ≡ edges_fit edges.now.sources.now edges.now.sinks.now n }
 {
-    if stops.len() != starts.len() {
-        return false;
-    }
-    if MAX_CONNECTIONS < starts.len() {
-        return false;
-    }
-    if ends_below(starts, n) {
-        ends_below(stops, n)
-    } else {
-        false
-    }
+    edges.sinks.len() == edges.sources.len()
+        && edges.sources.len() <= MAX_CONNECTIONS
+        && ends_below(edges.sources, n)
+        && ends_below(edges.sinks, n)
 }
 
 // Whether order has some of n positions, and no more.
+#[tactic(auto, unfolding(crate::specs::Fits::order_fits))]
 fn order_fits(order: &[usize], n: usize) -> bool
     ensures { result ≡ order_fits order.now n }
 {
-    if n < order.len() {
-        return false;
-    }
-    ends_below(order, n)
+    order.len() <= n && ends_below(order, n)
 }
 
-// Whether each column of list 3 has the room needed.
-fn reasons_room(
-    need: usize,
-    kinds: usize,
-    components: usize,
-    blocks: usize,
-    minimums: usize,
-    maximums: usize,
-) -> bool
-    ensures { result ≡ reasons_room need kinds components blocks minimums maximums }
+// Whether lists of these lengths have room for so many entries.
+fn have_room(lengths: &[usize], need: usize) -> bool
+    ensures { result ≡ list_all (leb need) lengths.now }
 {
-    if kinds < need {
-        return false;
-    }
-    if components < need {
-        return false;
-    }
-    if blocks < need {
-        return false;
-    }
-    if minimums < need {
-        return false;
-    }
-    need <= maximums
-}
-
-// Whether list 4 and each column of list 8 have room for n entries.
-fn labels_room(n: usize, feedback: usize, settled: usize, lows: usize, highs: usize) -> bool
-    ensures { result ≡ labels_room n feedback settled lows highs }
-{
-    if feedback < n {
-        return false;
-    }
-    if settled < n {
-        return false;
-    }
-    if lows < n {
-        return false;
-    }
-    n <= highs
+    lengths.iter().all(|&length| need <= length)
 }

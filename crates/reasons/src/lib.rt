@@ -1,17 +1,20 @@
 // Reasons, Feedback ids, labels, scope and pattern of a scene whose edges are given over the positions of its components.
 #![tactic(auto)]
 
-ghost use Rattle.std.specs.Prelude.{[], length};
-ghost use Rattle.rules.specs.Scene.{component_lists};
-ghost use Rattle.reasons.specs.Rows.{columns};
+ghost use Rattle.std.specs.Prelude.{length};
+ghost use Rattle.rules.specs.Lent.{SameReasons, SameLabels, components_lent};
 ghost use Rattle.reasons.specs.Assessed.{Assessable, OutputRoom, ReasonsFound, ReasonsCall};
+ghost use Rattle.reasons.specs.Lent.{reasons_lent, labels_lent};
 
-use crate::feedback::feedback_pattern;
+use crate::feedback::list_shared;
 use crate::fits::reasons_fit;
 use crate::labels::{clear_unsettled, sum_paths};
+use crate::pattern::classify_behavior_patterns;
 use crate::rows::{list_temporal_reasons, list_unequal_reasons};
 use crate::scope::temporal_scope;
+use graph::edges::Edges;
 use rules::answers::{BehaviorPattern, TemporalScope};
+use rules::lent::{Components, LabelLists, ReasonLists};
 use rules::limits::MAX_COMPONENTS;
 
 pub mod feedback; // feedback.rt: the components of list 4
@@ -21,10 +24,9 @@ mod pattern; // pattern.rt: patterns
 mod rows; // rows.rt: the reasons of list 3
 mod scope; // scope.rt: the scope from the counts of reasons
 
-// Whether the lists fit; how many entries of lists 3 and 4 are used; scope and pattern.
-#[derive(Clone, Copy)]
+// How many entries of lists 3 and 4 are used; scope and pattern.
+#[derive(Clone, Copy, PartialEq, Eq, Debug)]
 pub struct ReasonsAssessed {
-    pub fits: bool,
     pub reasons: usize,
     pub feedback: usize,
     pub scope: TemporalScope,
@@ -33,145 +35,56 @@ pub struct ReasonsAssessed {
 
 // Writes the reasons of list 3, the ids of list 4 and the labels of list 8, given the edges between positions of
 // components; order has the positions at which unequal delays are looked for, by rising id where the scene calls it. The
-// lists must fit: a kind, a delay word and a locked flag for each id and no more ids than a scene may have; as many stops
-// as starts and no more than a scene may have, each one a position; no more entries of order than ids, each a position;
-// and the room that document 01 asks for lists 3, 4 and 8. If they do not, every list keeps its content, the counts are 0
-// and nothing is said: SteadyStateSafe, and no pattern.
+// lists must fit: a kind, a delay word and a locked flag for each id and no more ids than a scene may have; as many sinks
+// as sources and no more than a scene may have, each one a position; no more entries of order than ids, each a position;
+// and the room that document 01 asks for lists 3, 4 and 8. If they do not, every list keeps its content and the answer is
+// None.
 pub fn assess_reasons(
-    ids: &[u64],
-    kinds: &[u8],
-    delays: &[u16],
-    locked: &[u8],
-    starts: &[usize],
-    stops: &[usize],
+    components: &Components<'_>,
+    edges: &Edges<'_>,
     order: &[usize],
-    reason_kinds: &mut [u8],
-    reason_components: &mut [u64],
-    reason_blocks: &mut [u8],
-    reason_minimums: &mut [u32],
-    reason_maximums: &mut [u32],
+    reasons: &mut ReasonLists<'_>,
     feedback_ids: &mut [u64],
-    label_settled: &mut [u8],
-    label_lows: &mut [u32],
-    label_highs: &mut [u32],
-) -> ReasonsAssessed
-    ensures { ReasonsCall (component_lists ids.now kinds.now delays.now locked.now [] [] []) starts.now stops.now order.now reason_kinds.old reason_components.old reason_blocks.old reason_minimums.old reason_maximums.old feedback_ids.old label_settled.old label_lows.old label_highs.old reason_kinds.new reason_components.new reason_blocks.new reason_minimums.new reason_maximums.new feedback_ids.new label_settled.new label_lows.new label_highs.new result }
+    labels: &mut LabelLists<'_>,
+) -> Option<ReasonsAssessed>
+    ensures same_reasons { SameReasons reasons.old reasons.new }
+    ensures same_labels { SameLabels labels.old labels.new }
+    ensures assessed { ReasonsCall (components_lent components.now) edges.now.sources.now edges.now.sinks.now order.now (reasons_lent reasons.old) feedback_ids.old (labels_lent labels.old) (reasons_lent reasons.new) feedback_ids.new (labels_lent labels.new) result }
 {
-    if reasons_fit(
-        starts,
-        stops,
-        order,
-        ids.len(),
-        kinds.len(),
-        delays.len(),
-        locked.len(),
-        reason_kinds.len(),
-        reason_components.len(),
-        reason_blocks.len(),
-        reason_minimums.len(),
-        reason_maximums.len(),
-        feedback_ids.len(),
-        label_settled.len(),
-        label_lows.len(),
-        label_highs.len(),
-    ) {
-        assess_within(
-            ids,
-            kinds,
-            delays,
-            locked,
-            starts,
-            stops,
-            order,
-            reason_kinds,
-            reason_components,
-            reason_blocks,
-            reason_minimums,
-            reason_maximums,
-            feedback_ids,
-            label_settled,
-            label_lows,
-            label_highs,
-        )
+    if reasons_fit(components, edges, order, reasons, feedback_ids, labels) {
+        Some(assess_within(components, edges, order, reasons, feedback_ids, labels))
     } else {
-        ReasonsAssessed {
-            fits: false,
-            reasons: 0,
-            feedback: 0,
-            scope: TemporalScope::SteadyStateSafe,
-            pattern: BehaviorPattern::Nothing,
-        }
+        None
     }
 }
 
 // The same for lists that fit. The label columns first hold every path sum, also those of unsettled components, from which
 // the unequal-delay reasons are listed.
 fn assess_within(
-    ids: &[u64],
-    kinds: &[u8],
-    delays: &[u16],
-    locked: &[u8],
-    starts: &[usize],
-    stops: &[usize],
+    components: &Components<'_>,
+    edges: &Edges<'_>,
     order: &[usize],
-    reason_kinds: &mut [u8],
-    reason_components: &mut [u64],
-    reason_blocks: &mut [u8],
-    reason_minimums: &mut [u32],
-    reason_maximums: &mut [u32],
+    reasons: &mut ReasonLists<'_>,
     feedback_ids: &mut [u64],
-    label_settled: &mut [u8],
-    label_lows: &mut [u32],
-    label_highs: &mut [u32],
+    labels: &mut LabelLists<'_>,
 ) -> ReasonsAssessed
-    requires { Assessable ids.now kinds.now delays.now locked.now starts.now stops.now order.now × OutputRoom (length ids.now) (columns reason_kinds.old reason_components.old reason_blocks.old reason_minimums.old reason_maximums.old) feedback_ids.old label_settled.old label_lows.old label_highs.old }
-    ensures { ReasonsFound (component_lists ids.now kinds.now delays.now locked.now [] [] []) starts.now stops.now order.now (columns reason_kinds.old reason_components.old reason_blocks.old reason_minimums.old reason_maximums.old) feedback_ids.old label_settled.old label_lows.old label_highs.old (columns reason_kinds.new reason_components.new reason_blocks.new reason_minimums.new reason_maximums.new) feedback_ids.new label_settled.new label_lows.new label_highs.new result }
+    requires { Assessable (components_lent components.now) edges.now.sources.now edges.now.sinks.now order.now × OutputRoom (length components.now.ids.now) (reasons_lent reasons.old) feedback_ids.old (labels_lent labels.old) }
+    ensures same_reasons { SameReasons reasons.old reasons.new }
+    ensures same_labels { SameLabels labels.old labels.new }
+    ensures found { ReasonsFound (components_lent components.now) edges.now.sources.now edges.now.sinks.now order.now (reasons_lent reasons.old) feedback_ids.old (labels_lent labels.old) (reasons_lent reasons.new) feedback_ids.new (labels_lent labels.new) result }
 {
     let mut unequal = [0usize; MAX_COMPONENTS];
-    let count = sum_paths(
-        kinds,
-        delays,
-        starts,
-        stops,
-        order,
-        label_settled,
-        label_lows,
-        label_highs,
-        &mut unequal,
-    );
-    let found = feedback_pattern(ids, kinds, starts, stops, feedback_ids);
-    let temporal = list_temporal_reasons(
-        ids,
-        kinds,
-        locked,
-        found.listed,
-        reason_kinds,
-        reason_components,
-        reason_blocks,
-        reason_minimums,
-        reason_maximums,
-    );
-    let reasons = list_unequal_reasons(
-        ids,
-        label_lows,
-        label_highs,
-        &unequal,
-        count,
-        temporal,
-        reason_kinds,
-        reason_components,
-        reason_blocks,
-        reason_minimums,
-        reason_maximums,
-    );
-    clear_unsettled(label_settled, label_lows, ids.len());
-    clear_unsettled(label_settled, label_highs, ids.len());
-    let pattern = found.pattern;
+    let mut marks = [0u8; MAX_COMPONENTS];
+    let Components { ids, kinds, .. } = *components;
+    let count = sum_paths(components, edges, order, labels, &mut unequal);
+    let feedback = list_shared(ids, kinds, edges, &mut marks, feedback_ids);
+    let temporal = list_temporal_reasons(components, feedback, reasons);
+    let all = list_unequal_reasons(ids, labels, &unequal[..count], temporal, reasons);
+    clear_unsettled(labels, ids.len());
     ReasonsAssessed {
-        fits: true,
-        reasons: reasons,
-        feedback: found.listed,
+        reasons: all,
+        feedback,
         scope: temporal_scope(temporal, count),
-        pattern: pattern,
+        pattern: classify_behavior_patterns(kinds, &marks, feedback),
     }
 }

@@ -1,9 +1,8 @@
 // Patterns, from the marks of list 4's components.
-ghost use Rattle.std.specs.Prelude.{◌≡◌, not, ◌&&◌, ◌≤◌, eqb, length};
+ghost use Rattle.std.specs.Prelude.{◌≡◌};
 ghost use Rattle.rules.specs.Kinds.{kind_row};
-ghost use Rattle.rules.specs.Lists.{any, indices};
-ghost use Rattle.rules.specs.Reasons.{passive, is_inverter};
-ghost use Rattle.reasons.specs.Pattern.{marked_pattern, is_listed_inverter, device_at};
+ghost use Rattle.rules.specs.Reasons.{is_inverter};
+ghost use Rattle.reasons.specs.Pattern.{marked_pattern, has_listed_inverter, has_device};
 
 use crate::feedback::is_listed;
 use rules::answers::BehaviorPattern;
@@ -11,12 +10,12 @@ use rules::kinds::TemporalNodeKind;
 use tables::kinds::{is_device, kind_row};
 
 // The pattern, where so many components are listed by their marks.
+#[tactic(auto, unfolding(crate::specs::Pattern::marked_pattern))]
 pub(crate) fn classify_behavior_patterns(
     kinds: &[u8],
     marks: &[u8],
     listed: usize,
 ) -> BehaviorPattern
-    requires { length kinds.now ≤ length marks.now }
     ensures { result ≡ marked_pattern kinds.now marks.now listed }
 {
     if 0 < listed {
@@ -25,67 +24,29 @@ pub(crate) fn classify_behavior_patterns(
         } else {
             BehaviorPattern::LatchCandidate
         }
+    } else if any_device(kinds) {
+        BehaviorPattern::DelayedPath
     } else {
-        if any_device(kinds) {
-            BehaviorPattern::DelayedPath
-        } else {
-            BehaviorPattern::Nothing
-        }
+        BehaviorPattern::Nothing
     }
 }
 
 // Whether an Inverter is listed.
 fn any_inverter(kinds: &[u8], marks: &[u8]) -> bool
-    requires { length kinds.now ≤ length marks.now }
-    ensures { result ≡ any (is_listed_inverter kinds.now marks.now) (indices (length kinds.now)) }
+    ensures { result ≡ has_listed_inverter kinds.now marks.now }
 {
-    let mut i = 0;
-    while i < kinds.len() {
-        if is_listed_inverter(kinds[i], marks[i]) {
-            return true;
-        }
-        i += 1;
-    }
-    false
-}
-
-// Whether a component with this mark is listed and an Inverter.
-fn is_listed_inverter(kind: u8, mark: u8) -> bool
-    ensures { result ≡ ((not (passive (kind_row kind).node) && not (eqb mark 0)) && is_inverter (kind_row kind).node) }
-{
-    if is_listed(kind, mark) {
-        is_inverter(kind)
-    } else {
-        false
-    }
+    kinds.iter().zip(marks).any(|(&kind, &mark)| is_listed(kind, mark) && is_inverter(kind))
 }
 
 fn is_inverter(kind: u8) -> bool
     ensures { result ≡ is_inverter (kind_row kind).node }
 {
-    let row = kind_row(kind);
-    let node = row.node;
-    match node {
-        TemporalNodeKind::Source => false,
-        TemporalNodeKind::Wire => false,
-        TemporalNodeKind::Inverter => true,
-        TemporalNodeKind::Delay => false,
-        TemporalNodeKind::Comparator => false,
-        TemporalNodeKind::Actuator => false,
-        TemporalNodeKind::Conductor => false,
-    }
+    matches!(kind_row(kind).node, TemporalNodeKind::Inverter)
 }
 
 // Whether a component is a device.
 fn any_device(kinds: &[u8]) -> bool
-    ensures { result ≡ any (device_at kinds.now) (indices (length kinds.now)) }
+    ensures { result ≡ has_device kinds.now }
 {
-    let mut i = 0;
-    while i < kinds.len() {
-        if is_device(kinds[i]) {
-            return true;
-        }
-        i += 1;
-    }
-    false
+    kinds.iter().any(|&kind| is_device(kind))
 }

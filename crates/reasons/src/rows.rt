@@ -1,175 +1,121 @@
 // The reasons of list 3, written to its columns.
-ghost use Rattle.std.specs.Prelude.{◌≡◌, ◌&&◌, ◌||◌, List, ◌++◌, map, ℕ, ◌+◌, eqb, length, take};
-ghost use Rattle.rules.specs.Kinds.{repeater_code, comparator_code, piston_code};
+ghost use Rattle.std.specs.Prelude.{◌≡◌, List, ◌++◌, map, ℕ, ◌+◌, ◌<◌, length, option_to_list, option_map};
+ghost use Rattle.rules.specs.Lent.{SameReasons};
 ghost use Rattle.rules.specs.Reasons.{feedback_reason, own_reason};
-ghost use Rattle.reasons.specs.Rows.{columns, ReasonRoom, OneReason, ReasonPut, ReasonsListed, plain, own_reasons, unequal_row, UnequalAsked};
+ghost use Rattle.reasons.specs.Lent.{reasons_lent};
+ghost use Rattle.reasons.specs.Rows.{ReasonRoom, ReasonPut, ReasonsListed, plain, own_reasons, unequal_row, UnequalAsked};
+ghost use Rattle.reasons.specs.Told.{told};
 
-const REPEATER: u8 = 10;
+use rules::kinds::BlockKind;
+use rules::lent::{Components, LabelLists, ReasonLists};
 
-const COMPARATOR: u8 = 11;
-
-const PISTON: u8 = 12;
+// A reason, with what it carries.
+#[derive(Clone, Copy)]
+enum Reason {
+    UnequalReconvergentDelay {
+        component: u64,
+        minimum: u32,
+        maximum: u32,
+    },
+    FeedbackLoop,
+    StatefulOrMechanicalDevice {
+        component: u64,
+        block: u8,
+    },
+    LockedRepeater {
+        component: u64,
+    },
+}
 
 // Lists one Feedback where something is listed in list 4, then for each component in order its own reason; answers how
 // many there are.
 pub(crate) fn list_temporal_reasons(
-    ids: &[u64],
-    kinds: &[u8],
-    locked: &[u8],
+    components: &Components<'_>,
     feedback: usize,
-    reason_kinds: &mut [u8],
-    reason_components: &mut [u64],
-    reason_blocks: &mut [u8],
-    reason_minimums: &mut [u32],
-    reason_maximums: &mut [u32],
+    reasons: &mut ReasonLists<'_>,
 ) -> usize
-    requires { (length kinds.now ≡ length ids.now) × (length locked.now ≡ length ids.now) × ReasonRoom (1 + length ids.now) (columns reason_kinds.old reason_components.old reason_blocks.old reason_minimums.old reason_maximums.old) }
-    ensures { (fs : List ℕ) → feedback ≡ length fs → ReasonsListed 0 (feedback_reason fs ++ own_reasons ids.now kinds.now locked.now (length ids.now)) (columns reason_kinds.old reason_components.old reason_blocks.old reason_minimums.old reason_maximums.old) (columns reason_kinds.new reason_components.new reason_blocks.new reason_minimums.new reason_maximums.new) result }
+    requires { (length components.now.kinds.now ≡ length components.now.ids.now) × (length components.now.locked.now ≡ length components.now.ids.now) × ReasonRoom (1 + length components.now.ids.now) (reasons_lent reasons.old) }
+    ensures same { SameReasons reasons.old reasons.new }
+    ensures listed { (fs : List ℕ) → feedback ≡ length fs → ReasonsListed 0 (feedback_reason fs ++ own_reasons components.now.ids.now components.now.kinds.now components.now.locked.now (length components.now.ids.now)) (reasons_lent reasons.old) (reasons_lent reasons.new) result }
 {
-    let mut count = put_reason(
-        reason_kinds,
-        reason_components,
-        reason_blocks,
-        reason_minimums,
-        reason_maximums,
-        0,
-        0 < feedback,
-        1,
-        0,
-        0,
-        0,
-        0,
-    );
-    let mut i = 0;
-    while i < ids.len() {
-        let own = own_reason(kinds[i], locked[i]);
-        count = put_reason(
-            reason_kinds,
-            reason_components,
-            reason_blocks,
-            reason_minimums,
-            reason_maximums,
-            count,
-            own.stands,
-            own.kind,
-            ids[i],
-            own.block,
-            0,
-            0,
-        );
-        i += 1;
+    let Components {
+        ids,
+        kinds,
+        locked,
+        ..
+    } = *components;
+    let mut count = 0;
+    let looped = 0 < feedback;
+    if looped {
+        write_reason(Reason::FeedbackLoop, 0, reasons);
+        count = 1;
+    }
+    for (i, &id) in ids.iter().enumerate() {
+        if let Some(reason) = own_reason(id, kinds[i], locked[i]) {
+            write_reason(reason, count, reasons);
+            count += 1;
+        }
     }
     count
 }
 
-// Whether a component has a reason of its own, and the reason's kind and block.
-#[derive(Clone, Copy)]
-struct OwnReason {
-    stands: bool,
-    kind: u8,
-    block: u8,
-}
-
-fn own_reason(kind: u8, locked: u8) -> OwnReason
-    ensures { (id : ℕ) → OneReason (own_reason (plain id kind locked)) result.stands result.kind id result.block 0 0 }
+// The reason that a component has of its own, if it has one.
+fn own_reason(id: u64, kind: u8, locked: u8) -> Option<Reason>
+    ensures { option_to_list (option_map told result) ≡ own_reason (plain id kind locked) }
 {
-    if is_stateful(kind) {
-        return OwnReason {
-            stands: true,
-            kind: 2,
+    match BlockKind::try_from(kind).ok()? {
+        BlockKind::Comparator | BlockKind::Piston => Some(Reason::StatefulOrMechanicalDevice {
+            component: id,
             block: kind,
-        };
-    }
-    OwnReason {
-        stands: is_locked_repeater(kind, locked),
-        kind: 3,
-        block: 0,
+        }),
+        BlockKind::Repeater => (locked == 1).then_some(Reason::LockedRepeater { component: id }),
+        _ => None,
     }
 }
 
-// Whether the kind is a comparator or a piston.
-fn is_stateful(kind: u8) -> bool
-    ensures { result ≡ (eqb kind comparator_code || eqb kind piston_code) }
-{
-    if kind == COMPARATOR {
-        true
-    } else {
-        kind == PISTON
-    }
-}
-
-fn is_locked_repeater(kind: u8, locked: u8) -> bool
-    ensures { result ≡ (eqb kind repeater_code && eqb locked 1) }
-{
-    if kind == REPEATER { locked == 1 } else { false }
-}
-
-// Lists the unequal delays at the first positions in unequal, with the sums that smallest and largest have for them, from
-// start on; answers where they end.
+// Lists the unequal delays at these positions, with the sums that the labels have for them, from start on; answers where
+// they end.
 pub(crate) fn list_unequal_reasons(
     ids: &[u64],
-    smallest: &[u32],
-    largest: &[u32],
+    labels: &LabelLists<'_>,
     unequal: &[usize],
-    count: usize,
     start: usize,
-    kinds: &mut [u8],
-    components: &mut [u64],
-    blocks: &mut [u8],
-    minimums: &mut [u32],
-    maximums: &mut [u32],
+    reasons: &mut ReasonLists<'_>,
 ) -> usize
-    requires { UnequalAsked ids.now smallest.now largest.now unequal.now count × ReasonRoom (start + count) (columns kinds.old components.old blocks.old minimums.old maximums.old) }
-    ensures { ReasonsListed start (map (unequal_row ids.now smallest.now largest.now) (take count unequal.now)) (columns kinds.old components.old blocks.old minimums.old maximums.old) (columns kinds.new components.new blocks.new minimums.new maximums.new) result }
+    requires { UnequalAsked ids.now labels.now.lows.now labels.now.highs.now unequal.now × ReasonRoom (start + length unequal.now) (reasons_lent reasons.old) }
+    ensures same { SameReasons reasons.old reasons.new }
+    ensures listed { ReasonsListed start (map (unequal_row ids.now labels.now.lows.now labels.now.highs.now) unequal.now) (reasons_lent reasons.old) (reasons_lent reasons.new) result }
 {
-    let mut k = 0;
-    while k < count {
-        let v = unequal[k];
-        put_reason(
-            kinds,
-            components,
-            blocks,
-            minimums,
-            maximums,
-            start + k,
-            true,
-            0,
-            ids[v],
-            0,
-            smallest[v],
-            largest[v],
-        );
-        k += 1;
+    for (k, &v) in unequal.iter().enumerate() {
+        let reason = Reason::UnequalReconvergentDelay {
+            component: ids[v],
+            minimum: labels.lows[v],
+            maximum: labels.highs[v],
+        };
+        write_reason(reason, start + k, reasons);
     }
-    start + k
+    start + unequal.len()
 }
 
-// Writes a reason to a place of the columns, where it stands; answers where the next one goes.
-fn put_reason(
-    kinds: &mut [u8],
-    components: &mut [u64],
-    blocks: &mut [u8],
-    minimums: &mut [u32],
-    maximums: &mut [u32],
-    at: usize,
-    stands: bool,
-    kind: u8,
-    component: u64,
-    block: u8,
-    minimum: u32,
-    maximum: u32,
-) -> usize
-    requires { ReasonRoom (at + 1) (columns kinds.old components.old blocks.old minimums.old maximums.old) }
-    ensures { ReasonPut at stands kind component block minimum maximum (columns kinds.old components.old blocks.old minimums.old maximums.old) (columns kinds.new components.new blocks.new minimums.new maximums.new) result }
+// Writes a reason to a place of list 3. A field that its case lacks holds 0.
+fn write_reason(reason: Reason, at: usize, reasons: &mut ReasonLists<'_>)
+    requires { ReasonRoom (at + 1) (reasons_lent reasons.old) }
+    ensures same { SameReasons reasons.old reasons.new }
+    ensures put { ReasonPut at (told reason) (reasons_lent reasons.old) (reasons_lent reasons.new) }
 {
-    if stands {
-        kinds[at] = kind;
-        components[at] = component;
-        blocks[at] = block;
-        minimums[at] = minimum;
-        maximums[at] = maximum;
-        at + 1
-    } else {
-        at
-    }
+    let (kind, component, block, minimum, maximum) = match reason {
+        Reason::UnequalReconvergentDelay {
+            component,
+            minimum,
+            maximum,
+        } => (0, component, 0, minimum, maximum),
+        Reason::FeedbackLoop => (1, 0, 0, 0, 0),
+        Reason::StatefulOrMechanicalDevice { component, block } => (2, component, block, 0, 0),
+        Reason::LockedRepeater { component } => (3, component, 0, 0, 0),
+    };
+    reasons.kinds[at] = kind;
+    reasons.components[at] = component;
+    reasons.blocks[at] = block;
+    reasons.minimums[at] = minimum;
+    reasons.maximums[at] = maximum;
 }

@@ -5,8 +5,7 @@ use mathlib.Core.Path.{◌≡◌, sym, ◌∙◌}
 use Prim.Native.Nat.{ℕ, ◌≤◌}
 use borrow.Author.Tests.{eqb-true, leb-true, eq-eqb, le-leb}
 use lib.Dec.{leb, eqb}
-use lib.ListN.{length, take}
-use lib.Seq.{length-take-le}
+use lib.ListN.{length}
 use Rattle.rules.proofs.Lists.{both_true}
 use Rattle.graph.specs.Adjacency.{Below}
 use Rattle.graph.specs.Groups.{Between}
@@ -106,28 +105,17 @@ pub →fits : {sources sinks order : List ℕ} {n highs settled smallest largest
 unfolding reconvergence_fits
 →fits f = rw (fits-given f.given, fits-answers f.answers, fits_work f.work)
 
--- the parts of the lists that are cut for the pass
-pub sized : (sources sinks low high order settled smallest largest unequal head next incoming left queue : List ℕ)
+-- what the pass asks for
+pub sized : {sources sinks low high order settled smallest largest unequal head next incoming left queue : List ℕ}
     → Fitted sources sinks order (length low) (length high) (length settled) (length smallest) (length largest) (length unequal) (length head) (length next) (length incoming) (length left) (length queue)
-    → Sized sources sinks low high order (take (length low) settled) (take (length low) smallest) (take (length low) largest) unequal (take (length low) head) (take (length sources) next) (take (length low) incoming) (take (length low) left)
-    (take (length low) queue)
-sized sources sinks low high order settled smallest largest unequal head next incoming left queue f = record {
+    → Sized sources sinks low high order settled smallest largest unequal head next incoming left queue
+sized f = record {
   edges = f.given.edges;
   highs = f.given.delays;
   positions = f.given.positions;
-  marks = length-take-le _ _ f.answers.marks;
+  marks = f.answers.marks;
   room = f.answers.room;
-  heads = length-take-le _ _ f.work.heads;
-  links = length-take-le _ _ f.work.links;
-  lent = record {
-    incomings = length-take-le _ _ f.work.incomings;
-    lefts = length-take-le _ _ f.work.lefts;
-    smallests = length-take-le _ _ f.answers.smallests;
-    largests = length-take-le _ _ f.answers.largests;
-    places = length-take-le _ _ f.work.places;
-  };
+  heads = f.work.heads;
+  links = f.work.links;
+  lent = record { incomings = f.work.incomings; lefts = f.work.lefts; smallests = f.answers.smallests; largests = f.answers.largests; places = f.work.places };
 }
-
--- the front of a list that is as long as another one
-pub cut : (n old : List ℕ) → length n ≤ length old → length n ≡ length (take (length n) old)
-cut n old h = sym (length-take-le (length n) old h)

@@ -4,6 +4,8 @@ pub mod Counting
 pub mod Relaxations
 pub mod Sources
 pub mod Takes
+-- what the steps leave as it is:
+pub mod Keeping
 -- the lists before a node is taken, and once all are:
 pub mod Starting
 pub mod Ending

@@ -1,6 +1,6 @@
 -- Marks and positions, listed step by step. Assumes nothing.
 use mathlib.Core.Path.{◌≡◌, refl, sym, ap, ◌∙◌}
-use mathlib.Core.Bool.{Bool, true, false, not, cond}
+use mathlib.Core.Bool.{Bool, true, false, cond}
 use mathlib.Core.List.{List, [], ◌∷◌, ◌++◌, append-nil}
 use Prim.Native.Nat.{ℕ, ◌+◌, ◌<◌, ◌≤◌}
 use native.Mathlib.Omega.{arith}
@@ -8,7 +8,7 @@ use native.Mathlib.Numerals.{add-one}
 use lib.ListN.{length, get_or, take, set}
 use lib.Seq.{take-suc, take_all}
 use lib.Dec.{eqb}
-use borrow.Author.Tests.{lt-leb, le-leb}
+use borrow.Author.Tests.{lt-leb, le-leb, eq-eqb, ne_eqb}
 use mir.Val.{bool_byte}
 use Rattle.rules.specs.Lists.{keep, written}
 use Rattle.rules.specs.Ordered.{key_at}
@@ -63,8 +63,11 @@ module _ (f : ℕ → Bool) (order old : List ℕ) where
     listed-all h = let e : take i order ≡ order = take_all i order h in (was.content ∙ ap (λ l. written old (keep f l)) e, was.counted ∙ ap (λ l. length (keep f l)) e)
 
 -- the two tests of a node
-pub too_few : (incoming smallest largest : ℕ) → incoming < 2 → false ≡ differs incoming smallest largest
-too_few incoming smallest largest h = rw (lt-leb 2 incoming h)
+pub apart : (incoming smallest largest : ℕ) → 2 ≤ incoming → (smallest ≡ largest → ⊥) → differs incoming smallest largest ≡ true
+apart incoming smallest largest h n = rw (le-leb 2 incoming h, ne_eqb smallest largest n)
 
-pub enough : (incoming smallest largest : ℕ) → 2 ≤ incoming → not (eqb smallest largest) ≡ differs incoming smallest largest
-enough incoming smallest largest h = rw (le-leb 2 incoming h)
+pub equal : (incoming smallest largest : ℕ) → 2 ≤ incoming → smallest ≡ largest → differs incoming smallest largest ≡ false
+equal incoming smallest largest h e = rw (le-leb 2 incoming h, eq-eqb smallest largest e)
+
+pub too_few : (incoming smallest largest : ℕ) → incoming < 2 → differs incoming smallest largest ≡ false
+too_few incoming smallest largest h = rw (lt-leb 2 incoming h)

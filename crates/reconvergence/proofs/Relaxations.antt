@@ -110,8 +110,8 @@ module _ {es : List Edge} {low high : ℕ → ℕ} {n : ℕ} {incoming left smal
         ∙ sym (and-false (p w) (eqb (key_at less w) 0) (ne_eqb (key_at less w) 0 (λ r. z (omega (arith, ap (key_at less) q, less-same))))))
         (λ q. ap (λ (x : ℕ). p w && eqb x 0) (sym (less_other w q))))
 
-    sizes : (b : Bool) → length (cond b (set queue c v) queue) ≡ n
-    sizes true = length-set queue c v ∙ S.places
+    sizes : (b : Bool) → n ≤ length (cond b (set queue c v) queue)
+    sizes true = omega (arith, length-set queue c v, S.places)
     sizes false = S.places
 
     rooms : (b : Bool) → cond b (c + 1) c ≤ n
@@ -126,9 +126,9 @@ module _ {es : List Edge} {low high : ℕ → ℕ} {n : ℕ} {incoming left smal
       unfolding less
       more = record {
         incomings = S.incomings;
-        lefts = length-set left v (key_at left v - 1) ∙ S.lefts;
-        smallests = length-set smallest v _ ∙ S.smallests;
-        largests = length-set largest v _ ∙ S.largests;
+        lefts = omega (arith, length-set left v (key_at left v - 1), S.lefts);
+        smallests = omega (arith, length-set smallest v (chosen min (eqb (key_at left v) (key_at incoming v)) (key_at smallest v) sum.minimum_redstone_ticks), S.smallests);
+        largests = omega (arith, length-set largest v (chosen max (eqb (key_at left v) (key_at incoming v)) (key_at largest v) sum.maximum_redstone_ticks), S.largests);
         places = sizes (eqb (key_at left v) 1);
         room = rooms (eqb (key_at left v) 1);
         counted = S.counted;

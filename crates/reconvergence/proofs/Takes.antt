@@ -8,7 +8,7 @@ use Prim.Native.Nat.{ℕ, suc, ◌+◌, ◌<◌, ◌≤◌, min, max}
 use native.Mathlib.Omega.{arith}
 use native.Mathlib.Numerals.{add-one}
 use lib.ListN.{length, get_or, take, set}
-use lib.Seq.{take-set-le}
+use lib.Seq.{get_or-take, take-set-le}
 use lib.Dec.{eqb, eqb→eq}
 use borrow.Author.Tests.{eq-eqb, eqb-true}
 use Rattle.rules.specs.Lists.{any, keep, count, indices}
@@ -55,6 +55,11 @@ chain-edges p sources sinks head next u I pairs l =
     same : (k : ℕ) (b : Bool) → eqb (get_or sources k 0) u ≡ b → (b && p (u ⟶ get_or sinks k 0)) ≡ (p (get_or sources k 0 ⟶ get_or sinks k 0) && b)
     same k true e = ap (λ (s : ℕ). p (s ⟶ get_or sinks k 0)) (sym (eqb-true _ _ e)) ∙ sym (and-true (p (get_or sources k 0 ⟶ get_or sinks k 0)))
     same k false e = sym (and-false (p (get_or sources k 0 ⟶ get_or sinks k 0)))
+
+-- an edge has a link, which is as long as the list of the edges
+pub linked-more : (sources sinks head next low high : List ℕ) (e : ℕ) → TimedGraph sources sinks head (take (length sources) next) low high → e < length sinks
+    → (e < length (take (length sources) next)) × (get_or (take (length sources) next) e 0 ≡ get_or next e 0)
+linked-more sources sinks head next low high e G h = (omega (arith, G.edges.pairs, G.indexed.links), get_or-take (length sources) next e 0 (omega (arith, G.edges.pairs)))
 
 -- one node more
 leaves-more : (p : Edge → Bool) (us : List ℕ) (u : ℕ) (es : List Edge) → (Memᴰ u us → ⊥) → count (leaves p (us ++ (u ∷ []))) es ≡ count (leaves p us) es + count (λ e. p e && starts_at u e) es

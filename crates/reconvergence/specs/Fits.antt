@@ -1,12 +1,11 @@
 -- Which lists a reconvergence pass takes, and what it promises. Assumes nothing: these are definitions.
-use Rattle.std.specs.Prelude.{Bool, false, cond, ◌&&◌, List, map, ◌≡◌, ℕ, eqb, leb, length}
+use Rattle.std.specs.Prelude.{Bool, false, cond, ◌&&◌, Option, is_some, IfSome, List, map, ◌≡◌, ℕ, eqb, leb, length}
 use Rattle.rules.specs.Lists.{keep, indices, written}
 use Rattle.rules.specs.Ordered.{key_at}
 use Rattle.rules.specs.Graph.{Edge, edges_between, settled}
 use Rattle.rules.specs.Paths.{smallest_sum, largest_sum}
 use Rattle.rules.specs.Reasons.{unequal_at}
 use Rattle.graph.specs.Fits.{ends_below}
-use Rattle.reconvergence.specs.declared.Reconverged.{Reconverged}
 
 -- as many sinks as sources and as many high delays as low ones, which are n; every source, sink and listed position is one of the n nodes
 unfoldable pub given_fits : (sources sinks order : List ℕ) (n highs : ℕ) → Bool
@@ -32,11 +31,11 @@ settled_marks es n = map (λ v. cond (settled es v) 1 0) (indices n)
 -- the call: its answer, and what the lists hold after it. Where the lists fit, what head, next, incoming, left and queue hold then is open
 pub record ReconvergentDelays
     (sources sinks low high order marks smallest largest unequal head next incoming left queue : List ℕ)
-    (marks' smallest' largest' unequal' head' next' incoming' left' queue' : List ℕ) (r : Reconverged) : Type 0 where
-  pub answer : r.fits ≡ reconvergence_fits sources sinks order (length low) (length high) (length marks) (length smallest) (length largest) (length unequal) (length head) (length next) (length incoming) (length left) (length queue)
-  pub settles : marks' ≡ cond r.fits (written marks (settled_marks (edges_between sources sinks) (length low))) marks
-  pub smallests : smallest' ≡ cond r.fits (written smallest (map (smallest_sum (edges_between sources sinks) (key_at low)) (indices (length low)))) smallest
-  pub largests : largest' ≡ cond r.fits (written largest (map (largest_sum (edges_between sources sinks) (key_at high)) (indices (length low)))) largest
-  pub lists : unequal' ≡ cond r.fits (written unequal (keep (unequal_at (edges_between sources sinks) (key_at low) (key_at high)) order)) unequal
-  pub counts : r.unequal ≡ cond r.fits (length (keep (unequal_at (edges_between sources sinks) (key_at low) (key_at high)) order)) 0
-  pub refused : r.fits ≡ false → (head' ≡ head) × (next' ≡ next) × (incoming' ≡ incoming) × (left' ≡ left) × (queue' ≡ queue)
+    (marks' smallest' largest' unequal' head' next' incoming' left' queue' : List ℕ) (r : Option ℕ) : Type 0 where
+  pub answer : is_some r ≡ reconvergence_fits sources sinks order (length low) (length high) (length marks) (length smallest) (length largest) (length unequal) (length head) (length next) (length incoming) (length left) (length queue)
+  pub settles : marks' ≡ cond (is_some r) (written marks (settled_marks (edges_between sources sinks) (length low))) marks
+  pub smallests : smallest' ≡ cond (is_some r) (written smallest (map (smallest_sum (edges_between sources sinks) (key_at low)) (indices (length low)))) smallest
+  pub largests : largest' ≡ cond (is_some r) (written largest (map (largest_sum (edges_between sources sinks) (key_at high)) (indices (length low)))) largest
+  pub lists : unequal' ≡ cond (is_some r) (written unequal (keep (unequal_at (edges_between sources sinks) (key_at low) (key_at high)) order)) unequal
+  pub counts : IfSome r (λ c. c ≡ length (keep (unequal_at (edges_between sources sinks) (key_at low) (key_at high)) order))
+  pub refused : is_some r ≡ false → (head' ≡ head) × (next' ≡ next) × (incoming' ≡ incoming) × (left' ≡ left) × (queue' ≡ queue)

@@ -26,14 +26,14 @@ ready left p v = p v && eqb (key_at left v) 0
 abbrev pub leaves : (Edge → Bool) → List ℕ → Edge → Bool
 leaves p us e = p e && any (eqb (source_of e)) us
 
--- the lists of n nodes once the edges in `passed` are relaxed: how many edges into each node are left, its sums so far, and in the first c places of
+-- the lists of n nodes, with an entry for each at least, once the edges in `passed` are relaxed: how many edges into each node are left, its sums so far, and in the first c places of
 -- queue, in any order, the nodes with none left
 pub record Relaxing (es : List Edge) (low high : ℕ → ℕ) (n : ℕ) (incoming left smallest largest queue : List ℕ) (c : ℕ) (passed : List Edge) : Type 0 where
-  pub incomings : length incoming ≡ n
-  pub lefts : length left ≡ n
-  pub smallests : length smallest ≡ n
-  pub largests : length largest ≡ n
-  pub places : length queue ≡ n
+  pub incomings : n ≤ length incoming
+  pub lefts : n ≤ length left
+  pub smallests : n ≤ length smallest
+  pub largests : n ≤ length largest
+  pub places : n ≤ length queue
   pub room : c ≤ n
   pub counted : (v : ℕ) → v < n → key_at incoming v ≡ in_count es v
   pub remains : (v : ℕ) → v < n → key_at left v + count (ends_at v) passed ≡ in_count es v
@@ -53,7 +53,7 @@ pub record Taking (es : List Edge) (low high : ℕ → ℕ) (n : ℕ) (incoming 
 pub record TimedGraph (sources sinks head next low high : List ℕ) : Type 0 where
   pub indexed : Indexed sources head next
   pub edges : Between sources sinks (length low)
-  pub heads : length head ≡ length low
+  pub heads : length low ≤ length head
   pub highs : length high ≡ length low
 
 -- the first value stands as it is, a later one is weighed against the one before

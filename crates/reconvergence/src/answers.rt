@@ -2,17 +2,17 @@
 ghost use Rattle.std.specs.Prelude.{◌≤◌, ◌≡◌, length};
 ghost use Rattle.rules.specs.Lists.{keep, written};
 ghost use Rattle.graph.specs.Adjacency.{Below};
-ghost use Rattle.reconvergence.specs.Pass.{done_marks, differs, differs_at};
+ghost use Rattle.reconvergence.specs.Pass.{done_marks, differs_at};
+
+use crate::lent::PathSums;
 
 // Marks the nodes with no edge left.
 pub(crate) fn mark_settled(left: &[usize], settled: &mut [u8])
     requires { length settled.old ≡ length left.now }
     ensures { settled.new ≡ done_marks left.now }
 {
-    let mut v = 0;
-    while v < left.len() {
-        settled[v] = (left[v] == 0) as u8;
-        v += 1;
+    for (v, &edges) in left.iter().enumerate() {
+        settled[v] = (edges == 0) as u8;
     }
 }
 
@@ -20,32 +20,19 @@ pub(crate) fn mark_settled(left: &[usize], settled: &mut [u8])
 pub(crate) fn list_unequal(
     order: &[usize],
     incoming: &[usize],
-    smallest: &[u32],
-    largest: &[u32],
+    sums: &PathSums<'_>,
     unequal: &mut [usize],
 ) -> usize
-    requires { Below (length incoming.now) order.now × (length smallest.now ≡ length incoming.now) × (length largest.now ≡ length incoming.now) × (length order.now ≤ length unequal.old) }
-    ensures { (unequal.new ≡ written unequal.old (keep (differs_at incoming.now smallest.now largest.now) order.now)) × (result ≡ length (keep (differs_at incoming.now smallest.now largest.now) order.now)) }
+    requires { Below (length incoming.now) order.now × Below (length sums.now.smallest.now) order.now × Below (length sums.now.largest.now) order.now × (length order.now ≤ length unequal.old) }
+    ensures listed { unequal.new ≡ written unequal.old (keep (differs_at incoming.now sums.now.smallest.now sums.now.largest.now) order.now) }
+    ensures counted { result ≡ length (keep (differs_at incoming.now sums.now.smallest.now sums.now.largest.now) order.now) }
 {
     let mut count = 0;
-    let mut i = 0;
-    while i < order.len() {
-        let v = order[i];
-        i += 1;
-        if is_unequal(incoming[v], smallest[v], largest[v]) {
+    for &v in order {
+        if 2 <= incoming[v] && sums.smallest[v] != sums.largest[v] {
             unequal[count] = v;
             count += 1;
         }
     }
     count
-}
-
-fn is_unequal(incoming: usize, smallest: u32, largest: u32) -> bool
-    ensures { result ≡ differs incoming smallest largest }
-{
-    if incoming < 2 {
-        false
-    } else {
-        smallest != largest
-    }
 }

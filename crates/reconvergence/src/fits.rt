@@ -1,100 +1,61 @@
 // Whether the lists fit, test by test.
-ghost use Rattle.std.specs.Prelude.{◌≡◌};
+ghost use Rattle.std.specs.Prelude.{◌≡◌, length};
 ghost use Rattle.reconvergence.specs.Fits.{given_fits, answers_fit, work_fits, reconvergence_fits};
+ghost use Rattle.reconvergence.specs.Lent.{lists_fit};
 
+use crate::lent::{Delays, PathSums, SumRoom};
 use graph::adjacency::ends_below;
+use graph::edges::Edges;
 
-// Whether all lists fit; those after order are given by their lengths.
+// Whether all lists fit.
+#[tactic(auto, unfolding(crate::specs::Fits::reconvergence_fits))]
 pub(crate) fn reconvergence_fits(
-    sources: &[usize],
-    sinks: &[usize],
+    edges: &Edges<'_>,
+    delays: &Delays<'_>,
     order: &[usize],
-    n: usize,
-    highs: usize,
-    settled: usize,
-    smallest: usize,
-    largest: usize,
-    unequal: usize,
-    head: usize,
-    next: usize,
-    incoming: usize,
-    left: usize,
-    queue: usize,
+    sums: &PathSums<'_>,
+    unequal: &[usize],
+    room: &SumRoom<'_>,
 ) -> bool
-    ensures { result ≡ reconvergence_fits sources.now sinks.now order.now n highs settled smallest largest unequal head next incoming left queue }
+    ensures { result ≡ lists_fit edges.now delays.now order.now sums.now unequal.now room.now }
 {
-    if given_fits(sources, sinks, order, n, highs) {
-        if answers_fit(n, order.len(), settled, smallest, largest, unequal) {
-            return work_fits(n, sources.len(), head, next, incoming, left, queue);
-        }
-    }
-    false
+    let n = delays.low.len();
+    given_fits(edges, order, n, delays.high.len())
+        && answers_fit(n, order.len(), sums, unequal.len())
+        && work_fits(n, edges.sources.len(), room)
 }
 
 // Whether the edges, the delays and the positions to list are those of a graph of n nodes.
-fn given_fits(sources: &[usize], sinks: &[usize], order: &[usize], n: usize, highs: usize) -> bool
-    ensures { result ≡ given_fits sources.now sinks.now order.now n highs }
+#[tactic(auto, unfolding(crate::specs::Fits::given_fits))]
+fn given_fits(edges: &Edges<'_>, order: &[usize], n: usize, highs: usize) -> bool
+    ensures { result ≡ given_fits edges.now.sources.now edges.now.sinks.now order.now n highs }
 {
-    if sinks.len() != sources.len() {
-        return false;
-    }
-    if highs != n {
-        return false;
-    }
-    if ends_below(sources, n) {
-        if ends_below(sinks, n) {
-            return ends_below(order, n);
-        }
-    }
-    false
+    edges.sinks.len() == edges.sources.len()
+        && highs == n
+        && ends_below(edges.sources, n)
+        && ends_below(edges.sinks, n)
+        && ends_below(order, n)
 }
 
 // Whether there is room for the answers.
-fn answers_fit(
-    n: usize,
-    listed: usize,
-    settled: usize,
-    smallest: usize,
-    largest: usize,
-    unequal: usize,
-) -> bool
-    ensures { result ≡ answers_fit n listed settled smallest largest unequal }
+#[tactic(auto, unfolding(crate::specs::Fits::answers_fit))]
+fn answers_fit(n: usize, listed: usize, sums: &PathSums<'_>, unequal: usize) -> bool
+    ensures { result ≡ answers_fit n listed (length sums.now.settled.now) (length sums.now.smallest.now) (length sums.now.largest.now) unequal }
 {
-    if settled < n {
-        return false;
-    }
-    if smallest < n {
-        return false;
-    }
-    if largest < n {
-        return false;
-    }
-    listed <= unequal
+    n <= sums.settled.len()
+        && n <= sums.smallest.len()
+        && n <= sums.largest.len()
+        && listed <= unequal
 }
 
-// Whether there is room to work in.
-fn work_fits(
-    n: usize,
-    m: usize,
-    head: usize,
-    next: usize,
-    incoming: usize,
-    left: usize,
-    queue: usize,
-) -> bool
-    ensures { result ≡ work_fits n m head next incoming left queue }
+// Whether there is room to work in, for n nodes and m edges.
+#[tactic(auto, unfolding(crate::specs::Fits::work_fits))]
+fn work_fits(n: usize, m: usize, room: &SumRoom<'_>) -> bool
+    ensures { result ≡ work_fits n m (length room.now.head.now) (length room.now.next.now) (length room.now.incoming.now) (length room.now.left.now) (length room.now.queue.now) }
 {
-    if head < n {
-        return false;
-    }
-    if next < m {
-        return false;
-    }
-    if incoming < n {
-        return false;
-    }
-    if left < n {
-        return false;
-    }
-    n <= queue
+    n <= room.head.len()
+        && m <= room.next.len()
+        && n <= room.incoming.len()
+        && n <= room.left.len()
+        && n <= room.queue.len()
 }

@@ -1,62 +1,49 @@
 // The pass over lists that fit.
 ghost use Rattle.std.specs.Prelude.{length};
-ghost use Rattle.rules.specs.Ordered.{key_at};
-ghost use Rattle.rules.specs.Graph.{edges_between};
-ghost use Rattle.reconvergence.specs.Worklist.{TimedGraph};
-ghost use Rattle.reconvergence.specs.Pass.{Lent, Summed, Sized, Answered};
+ghost use Rattle.reconvergence.specs.Lent.{SamePathSums, SameSumRoom, Kept, sized, answered, timed, roomy, summed};
 
 use crate::answers::{list_unequal, mark_settled};
+use crate::lent::{Delays, PathSums, SumRoom};
 use crate::start::start;
 use crate::worklist::take_all;
 use graph::adjacency::index_edges;
+use graph::edges::Edges;
 
 // Marks, sums and the list of nodes with unequal delays; answers how many it lists.
 pub(crate) fn find_unequal(
-    sources: &[usize],
-    sinks: &[usize],
-    low: &[u32],
-    high: &[u32],
+    edges: &Edges<'_>,
+    delays: &Delays<'_>,
     order: &[usize],
-    settled: &mut [u8],
-    smallest: &mut [u32],
-    largest: &mut [u32],
+    sums: &mut PathSums<'_>,
     unequal: &mut [usize],
-    head: &mut [usize],
-    next: &mut [usize],
-    incoming: &mut [usize],
-    left: &mut [usize],
-    queue: &mut [usize],
+    room: &mut SumRoom<'_>,
 ) -> usize
-    requires { Sized sources.now sinks.now low.now high.now order.now settled.old smallest.old largest.old unequal.old head.old next.old incoming.old left.old queue.old }
-    ensures { Answered (edges_between sources.now sinks.now) (key_at low.now) (key_at high.now) (length low.now) order.now settled.new smallest.new largest.new unequal.old unequal.new result }
+    requires { sized edges.now delays.now order.now sums.old unequal.old room.old }
+    ensures same_sums { SamePathSums sums.old sums.new }
+    ensures same_room { SameSumRoom room.old room.new }
+    ensures answered { answered edges.now delays.now order.now sums.old sums.new unequal.old unequal.new result }
 {
-    index_edges(sources, head, next);
-    sum_paths(
-        sources, sinks, head, next, low, high, incoming, left, smallest, largest, queue,
-    );
-    mark_settled(left, settled);
-    list_unequal(order, incoming, smallest, largest, unequal)
+    let n = delays.low.len();
+    let next = &mut *room.next;
+    index_edges(edges.sources, room.head, &mut next[..edges.sources.len()]);
+    sum_paths(edges, delays, sums, room);
+    mark_settled(&room.left[..n], &mut sums.settled[..n]);
+    list_unequal(order, room.incoming, sums, unequal)
 }
 
 // The sums of the paths to each node, over linked edges; left is then 0 at the settled nodes.
 fn sum_paths(
-    sources: &[usize],
-    sinks: &[usize],
-    head: &[usize],
-    next: &[usize],
-    low: &[u32],
-    high: &[u32],
-    incoming: &mut [usize],
-    left: &mut [usize],
-    smallest: &mut [u32],
-    largest: &mut [u32],
-    queue: &mut [usize],
+    edges: &Edges<'_>,
+    delays: &Delays<'_>,
+    sums: &mut PathSums<'_>,
+    room: &mut SumRoom<'_>,
 )
-    requires { TimedGraph sources.now sinks.now head.now next.now low.now high.now × Lent (length low.now) incoming.old left.old smallest.old largest.old queue.old }
-    ensures { Summed (edges_between sources.now sinks.now) (key_at low.now) (key_at high.now) (length low.now) incoming.new left.new smallest.new largest.new }
+    requires { timed edges.now delays.now room.old × roomy (length delays.now.low.now) sums.old room.old }
+    ensures same_sums { SamePathSums sums.old sums.new }
+    ensures same_room { SameSumRoom room.old room.new }
+    ensures summed { summed edges.now delays.now sums.new room.new }
+    ensures kept { Kept (length delays.now.low.now) sums.old sums.new room.old room.new }
 {
-    let waiting = start(sinks, incoming, left, smallest, largest, queue);
-    take_all(
-        sources, sinks, head, next, low, high, incoming, left, smallest, largest, queue, waiting,
-    );
+    let waiting = start(edges.sinks, delays.low.len(), sums, room);
+    take_all(edges, delays, sums, room, waiting);
 }

@@ -1,65 +1,54 @@
 // The lists before a node is taken: how many edges end at each node, sums of 0, and the nodes where no edge ends.
-ghost use Rattle.std.specs.Prelude.{◌≡◌, length, replicate};
+ghost use Rattle.std.specs.Prelude.{◌≡◌, ◌≤◌, length, replicate, drop, ◌++◌};
 ghost use Rattle.graph.specs.Adjacency.{Below};
-ghost use Rattle.reconvergence.specs.Pass.{Counted, Waiting, Started, Lent};
+ghost use Rattle.reconvergence.specs.Lent.{SamePathSums, SameSumRoom, Kept, roomy};
+ghost use Rattle.reconvergence.specs.Pass.{Waiting, Started};
 
-use graph::set_all::set_all;
+use crate::lent::{PathSums, SumRoom};
+use graph::end_counts::count_ends;
 
-// Fills the lists and answers how many nodes wait in queue.
+// Fills the lists for n nodes and answers how many nodes wait in queue.
 pub(crate) fn start(
     sinks: &[usize],
-    incoming: &mut [usize],
-    left: &mut [usize],
-    smallest: &mut [u32],
-    largest: &mut [u32],
-    queue: &mut [usize],
+    n: usize,
+    sums: &mut PathSums<'_>,
+    room: &mut SumRoom<'_>,
 ) -> usize
-    requires { Below (length incoming.old) sinks.now × Lent (length incoming.old) incoming.old left.old smallest.old largest.old queue.old }
-    ensures { Started sinks.now incoming.new left.new smallest.new largest.new queue.new result }
+    requires { Below n sinks.now × roomy n sums.old room.old }
+    ensures same_sums { SamePathSums sums.old sums.new }
+    ensures same_room { SameSumRoom room.old room.new }
+    ensures started { Started n sinks.now room.new.incoming.now room.new.left.now sums.new.smallest.now sums.new.largest.now room.new.queue.now result }
+    ensures kept { Kept n sums.old sums.new room.old room.new }
 {
-    set_all(0, incoming);
-    count_incoming(sinks, incoming);
-    clear_sums(smallest);
-    clear_sums(largest);
-    list_ready(incoming, left, queue)
+    count_ends(sinks, room.incoming);
+    clear(n, sums.smallest);
+    clear(n, sums.largest);
+    list_ready(n, room)
 }
 
-fn clear_sums(sums: &mut [u32])
-    ensures { sums.new ≡ replicate (length sums.old) 0 }
+// No sum of the n nodes is more than 0.
+fn clear(n: usize, sums: &mut [u32])
+    requires { n ≤ length sums.old }
+    ensures { sums.new ≡ replicate n 0 ++ drop n sums.old }
 {
-    let mut v = 0;
-    while v < sums.len() {
-        sums[v] = 0;
-        v += 1;
-    }
-}
-
-// Counts the edges into each node, from counts of 0.
-fn count_incoming(sinks: &[usize], incoming: &mut [usize])
-    requires { Below (length incoming.old) sinks.now × (incoming.old ≡ replicate (length incoming.old) 0) }
-    ensures { Counted sinks.now incoming.new }
-{
-    let mut e = 0;
-    while e < sinks.len() {
-        let v = sinks[e];
-        incoming[v] += 1;
-        e += 1;
-    }
+    sums[..n].fill(0);
 }
 
 // All edges into a node are left; the nodes with none wait.
-fn list_ready(incoming: &[usize], left: &mut [usize], queue: &mut [usize]) -> usize
-    requires { (length left.old ≡ length incoming.now) × (length queue.old ≡ length incoming.now) }
-    ensures { (left.new ≡ incoming.now) × Waiting incoming.now queue.new result }
+fn list_ready(n: usize, room: &mut SumRoom<'_>) -> usize
+    requires { (n ≤ length room.old.incoming.now) × (n ≤ length room.old.left.now) × (n ≤ length room.old.queue.now) }
+    ensures same { SameSumRoom room.old room.new }
+    ensures ready { Waiting n room.new.incoming.now room.new.left.now room.new.queue.now result }
+    ensures counts { room.new.incoming.now ≡ room.old.incoming.now }
+    ensures heads { room.new.head.now ≡ room.old.head.now }
+    ensures links { room.new.next.now ≡ room.old.next.now }
 {
     let mut count = 0;
-    let mut v = 0;
-    while v < incoming.len() {
-        let u = v;
-        v += 1;
-        left[u] = incoming[u];
-        if incoming[u] == 0 {
-            queue[count] = u;
+    for v in 0..n {
+        let edges = room.incoming[v];
+        room.left[v] = edges;
+        if edges == 0 {
+            room.queue[count] = v;
             count += 1;
         }
     }

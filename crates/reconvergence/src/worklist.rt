@@ -1,36 +1,31 @@
 // Nodes taken one by one, each once all edges into it are relaxed.
-ghost use Rattle.std.specs.Prelude.{◌+◌, ◌<◌, min, max, ◌≡◌, length};
+ghost use Rattle.std.specs.Prelude.{◌+◌, ◌<◌, length};
 ghost use Rattle.rules.specs.Ordered.{key_at};
-ghost use Rattle.rules.specs.Graph.{edges_between};
-ghost use Rattle.reconvergence.specs.Worklist.{chosen, range_at, Relaxed, Taking, TimedGraph};
+ghost use Rattle.reconvergence.specs.Lent.{SamePathSums, SameSumRoom, Kept, Standing, timed, taking, relaxed};
 
+use crate::lent::{Delays, PathSums, SumRoom};
+use graph::edges::Edges;
 use rules::delay::DelayRange;
 
 // Takes every node that comes to have no edge left, the oldest first, and answers how many it took.
 pub(crate) fn take_all(
-    sources: &[usize],
-    sinks: &[usize],
-    head: &[usize],
-    next: &[usize],
-    low: &[u32],
-    high: &[u32],
-    incoming: &[usize],
-    left: &mut [usize],
-    smallest: &mut [u32],
-    largest: &mut [u32],
-    queue: &mut [usize],
+    edges: &Edges<'_>,
+    delays: &Delays<'_>,
+    sums: &mut PathSums<'_>,
+    room: &mut SumRoom<'_>,
     waiting: usize,
 ) -> usize
-    requires { TimedGraph sources.now sinks.now head.now next.now low.now high.now × Taking (edges_between sources.now sinks.now) (key_at low.now) (key_at high.now) (length low.now) incoming.now left.old smallest.old largest.old queue.old 0 waiting }
-    ensures { Taking (edges_between sources.now sinks.now) (key_at low.now) (key_at high.now) (length low.now) incoming.now left.new smallest.new largest.new queue.new result result }
+    requires { timed edges.now delays.now room.old × taking edges.now delays.now sums.old room.old 0 waiting }
+    ensures same_sums { SamePathSums sums.old sums.new }
+    ensures same_room { SameSumRoom room.old room.new }
+    ensures taken { taking edges.now delays.now sums.new room.new result result }
+    ensures kept { Kept (length delays.now.low.now) sums.old sums.new room.old room.new }
 {
     let mut count = waiting;
     let mut i = 0;
+    // a `for` would need the last count before the first node is taken
     while i < count {
-        count = take(
-            sources, sinks, head, next, low, high, incoming, left, smallest, largest, queue, i,
-            count,
-        );
+        count = take(edges, delays, sums, room, i, count);
         i += 1;
     }
     count
@@ -38,96 +33,66 @@ pub(crate) fn take_all(
 
 // Takes the node at place i, whichever it is: relaxes the edges that leave it. Answers how many places are in use.
 fn take(
-    sources: &[usize],
-    sinks: &[usize],
-    head: &[usize],
-    next: &[usize],
-    low: &[u32],
-    high: &[u32],
-    incoming: &[usize],
-    left: &mut [usize],
-    smallest: &mut [u32],
-    largest: &mut [u32],
-    queue: &mut [usize],
+    edges: &Edges<'_>,
+    delays: &Delays<'_>,
+    sums: &mut PathSums<'_>,
+    room: &mut SumRoom<'_>,
     i: usize,
     waiting: usize,
 ) -> usize
-    requires { TimedGraph sources.now sinks.now head.now next.now low.now high.now × Taking (edges_between sources.now sinks.now) (key_at low.now) (key_at high.now) (length low.now) incoming.now left.old smallest.old largest.old queue.old i waiting × (i < waiting) }
-    ensures { Taking (edges_between sources.now sinks.now) (key_at low.now) (key_at high.now) (length low.now) incoming.now left.new smallest.new largest.new queue.new (i + 1) result }
+    requires { timed edges.now delays.now room.old × taking edges.now delays.now sums.old room.old i waiting × (i < waiting) }
+    ensures same_sums { SamePathSums sums.old sums.new }
+    ensures same_room { SameSumRoom room.old room.new }
+    ensures taken { taking edges.now delays.now sums.new room.new (i + 1) result }
+    ensures kept { Kept (length delays.now.low.now) sums.old sums.new room.old room.new }
 {
-    let u = queue[i];
-    let delay = range_at(low, high, u);
-    let sum = range_at(smallest, largest, u).add(delay);
+    let u = room.queue[i];
+    let delay = DelayRange {
+        minimum_redstone_ticks: delays.low[u],
+        maximum_redstone_ticks: delays.high[u],
+    };
+    let so_far = DelayRange {
+        minimum_redstone_ticks: sums.smallest[u],
+        maximum_redstone_ticks: sums.largest[u],
+    };
+    let sum = so_far.add(delay);
     let mut count = waiting;
-    let mut e = head[u];
-    while e < next.len() {
-        let v = sinks[e];
-        count = relax(incoming, left, smallest, largest, queue, count, v, sum);
-        e = next[e];
+    let mut e = room.head[u];
+    while e < edges.sinks.len() {
+        count = relax(sums, room, count, edges.sinks[e], sum);
+        e = room.next[e];
     }
     count
 }
 
-// The range of one node.
-fn range_at(minimum: &[u32], maximum: &[u32], v: usize) -> DelayRange
-    requires { (v < length minimum.now) × (v < length maximum.now) }
-    ensures { result ≡ range_at minimum.now maximum.now v }
-{
-    DelayRange {
-        minimum_redstone_ticks: minimum[v],
-        maximum_redstone_ticks: maximum[v],
-    }
-}
-
-// Relaxes an edge into v that brings sum; with the last one v comes to wait.
+// Relaxes an edge into v that brings sum; with the last one v comes to wait. The first sum stands as it is: what the
+// lists hold before it is no sum.
 fn relax(
-    incoming: &[usize],
-    left: &mut [usize],
-    smallest: &mut [u32],
-    largest: &mut [u32],
-    queue: &mut [usize],
+    sums: &mut PathSums<'_>,
+    room: &mut SumRoom<'_>,
     count: usize,
     v: usize,
     sum: DelayRange,
 ) -> usize
-    requires { (v < length incoming.now) × (v < length left.old) × (v < length smallest.old) × (v < length largest.old) × (0 < key_at left.old v) × (count < length queue.old) }
-    ensures { Relaxed incoming.now left.old smallest.old largest.old queue.old count v sum left.new smallest.new largest.new queue.new result }
+    requires { (v < length room.old.incoming.now) × (v < length room.old.left.now) × (v < length sums.old.smallest.now) × (v < length sums.old.largest.now) × (0 < key_at room.old.left.now v) × (count < length room.old.queue.now) }
+    ensures same_sums { SamePathSums sums.old sums.new }
+    ensures same_room { SameSumRoom room.old room.new }
+    ensures relaxed { relaxed sums.old room.old count v sum sums.new room.new result }
+    ensures standing { Standing sums.old sums.new room.old room.new }
 {
-    let waits = left[v];
-    let first = waits == incoming[v];
-    smallest[v] = least(first, smallest[v], sum.minimum_redstone_ticks);
-    largest[v] = greatest(first, largest[v], sum.maximum_redstone_ticks);
-    left[v] = waits - 1;
+    let waits = room.left[v];
+    if waits == room.incoming[v] {
+        sums.smallest[v] = sum.minimum_redstone_ticks;
+        sums.largest[v] = sum.maximum_redstone_ticks;
+    } else {
+        sums.smallest[v] = sum.minimum_redstone_ticks.min(sums.smallest[v]);
+        sums.largest[v] = sum.maximum_redstone_ticks.max(sums.largest[v]);
+    }
+    room.left[v] = waits - 1;
     if waits == 1 {
-        queue[count] = v;
+        room.queue[count] = v;
         count + 1
     } else {
         count
     }
-}
-
-// The smaller sum. The first one stands as it is: what the list holds before it is no sum.
-fn least(first: bool, old: u32, new: u32) -> u32
-    ensures { result ≡ chosen min first old new }
-{
-    if first {
-        return new;
-    }
-    if new < old {
-        return new;
-    }
-    old
-}
-
-// The larger sum, likewise.
-fn greatest(first: bool, old: u32, new: u32) -> u32
-    ensures { result ≡ chosen max first old new }
-{
-    if first {
-        return new;
-    }
-    if old < new {
-        return new;
-    }
-    old
 }

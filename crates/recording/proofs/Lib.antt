@@ -1,3 +1,2 @@
--- Tallies and their sums, and the recording of a trace, case by case:
-pub mod Sums
+-- The recording of a trace:
 pub mod RecordSteps

@@ -1,4 +1,5 @@
-// The running record over a row of traces.
+// A running record of judged traces.
 #![tactic(auto)]
 
-pub mod record; // record.rt: the running record
+pub mod held; // held.rt: the record, its test and its growth
+pub mod record; // record.rt: the call on a record

@@ -6,10 +6,11 @@ use Rattle.std.specs.Io.KnownBytes.{Appends, Consumes, IsAtEnd}
 use Rattle.std.specs.declared.option.Option.{Option}
 use Rattle.std.specs.declared.result.Result.{Result}
 use Rattle.rules.specs.Text.{max_text, read_scene}
+use Rattle.rules.specs.declared.answers.RefusalKind.TheVariants.{TextNotInForm}
 use Rattle.rules.specs.Report.{report_of, refusal_text}
 
 -- a text of more bytes than the limit is refused, whatever they are
-report_of-long : (xs : List ℕ) → max_text < length xs → report_of xs ≡ refusal_text 14 0
+report_of-long : (xs : List ℕ) → max_text < length xs → report_of xs ≡ refusal_text (record { kind = TextNotInForm; place = 0 })
 unfolding report_of read_scene
 report_of-long xs h = rw (lt-ltb max_text (length xs) h)
 

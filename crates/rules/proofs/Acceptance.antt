@@ -11,8 +11,7 @@ use lib.ListN.{length, get_or, take}
 use Rattle.rules.specs.Lists.{any, keep, count, indices, Distinct}
 use Rattle.rules.specs.Graph.{source_of, sink_of}
 use Rattle.rules.specs.Scene.{Component, Connection, ComponentLists, ConnectionLists, component_at, connection_at, components_of, connections_of, is_edge, edge_of, edges_of, id_of, has_id}
-use Rattle.rules.specs.Refusals.{Test, SceneLimits, Output, lengths_differ, component_lengths, connection_lengths, output_test, out_of_range, used_earlier, component_tests, bad_transfer, end_missing, connection_tests, size_tests, scene_tests, check_scene}
-use Rattle.rules.specs.declared.answers.Checked.TheVariants.{Accepted}
+use Rattle.rules.specs.Refusals.{Test, accepted, SceneLimits, Output, lengths_differ, component_lengths, connection_lengths, output_test, out_of_range, used_earlier, component_tests, bad_transfer, end_missing, connection_tests, size_tests, scene_tests, check_scene}
 use Rattle.rules.proofs.Counts.{count_none}
 use Rattle.rules.proofs.Lists.{passes, or-none, and_left, and_right, tests, any-in, any_out, any→mem, mem→any, keep_out}
 use Rattle.rules.proofs.Permutations.{perm-mem, perm-length, perm-keep}
@@ -132,7 +131,7 @@ module _ (limits : SceneLimits) (l : ComponentLists) (m : ConnectionLists) (outp
   connection_rows = flat_map (connection_tests l m) (indices (length m.sources))
 
   -- an accepted scene has these facts
-  pub accepted→ : check_scene limits l m outputs ≡ Accepted → AcceptedScene limits l m outputs
+  pub accepted→ : check_scene limits l m outputs ≡ accepted → AcceptedScene limits l m outputs
   unfolding check_scene scene_tests size_tests component_tests connection_tests components_of connections_of
   accepted→ e = record {
     components_aligned = aligned-components l (parts.0 _ (Memᴰ.head refl));
@@ -158,7 +157,7 @@ module _ (limits : SceneLimits) (l : ComponentLists) (m : ConnectionLists) (outp
       at-connection = none_each (connection_tests l m) _ rows.1
 
   -- and a scene that has them is accepted
-  pub →accepted : AcceptedScene limits l m outputs → check_scene limits l m outputs ≡ Accepted
+  pub →accepted : AcceptedScene limits l m outputs → check_scene limits l m outputs ≡ accepted
   unfolding check_scene scene_tests size_tests component_tests connection_tests components_of connections_of
   →accepted a =
       accepted-if _ (none-append sizes none-sizes (none-append component_rows (none-flat (component_tests l) _ at-component) (none-flat (connection_tests l m) _ at-connection)))
@@ -207,7 +206,7 @@ edge-ends {l} {m} a e k =
 
 -- the order of the connections does not matter to acceptance
 pub acceptance-order : (limits : SceneLimits) (l : ComponentLists) (m m' : ConnectionLists) (outputs : List Output) → Permᴰ (connections_of m) (connections_of m') → ConnectionsAligned m'
-    → check_scene limits l m outputs ≡ Accepted → check_scene limits l m' outputs ≡ Accepted
+    → check_scene limits l m outputs ≡ accepted → check_scene limits l m' outputs ≡ accepted
 acceptance-order limits l m m' outputs p g e =
     let a = accepted→ limits l m outputs e in
     →accepted limits l m' outputs record {

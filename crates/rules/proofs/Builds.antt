@@ -8,8 +8,9 @@ use Rattle.rules.specs.Scene.{Component, Connection, connection_lists as joined}
 use Rattle.rules.specs.Pulses.{event_lists as events}
 use Rattle.rules.specs.Verdicts.{contract_lists as contracts}
 use Rattle.rules.specs.Traces.{TraceLists, trace_lists as traced}
-use Rattle.rules.specs.declared.answers.Checked.TheVariants.{Accepted, Refused}
 use Rattle.rules.specs.Recording.{TransientRecord}
+use Rattle.rules.specs.declared.answers.RefusalKind.TheVariants.{IdUsedEarlier, RecordFull}
+use Rattle.rules.specs.Refusals.{accepted, refused as refused_by}
 use Rattle.rules.proofs.Questions.{Question, build, described, ranged, checks, fits, needs, sizes, trace, tests, compared, recording, appended, stored, path, Answer, report, description, ranges, judged, checked, record-after, holds, table, answer, computes}
 use Rattle.rules.proofs.Questions.{block, lever, lamp, wire, torch, repeater, link, ◌to◌, support, plain, selves, assessed, unequal, loop, stateful, locked_at, between, unsettled, straight, inverting, ranging, device}
 use Rattle.rules.proofs.Questions.{none, sevens, three, tested, pulse_at, peak, dip, wanted, intentional, stable, doubled, unread, contracted, no_pulse, high2, low2, few, held, observed, refused}
@@ -215,8 +216,8 @@ rows =
     ∷ path (1 ∷ 2 ∷ 3 ∷ 4 ∷ []) (0 ∷ 1 ∷ []) (1 ∷ []) 1 gives holds []
     ∷ path (1 ∷ 2 ∷ 3 ∷ 4 ∷ []) (0 ∷ []) (1 ∷ 3 ∷ []) 1 gives holds []
     -- entries past those written keep their values, and those before; under a refusal all do
-    ∷ stored Accepted 2 (1 ∷ 2 ∷ 3 ∷ 4 ∷ 5 ∷ []) (8 ∷ 9 ∷ []) gives holds (1 ∷ 2 ∷ 8 ∷ 9 ∷ 5 ∷ [])
-    ∷ stored (Refused 3 1) 2 (1 ∷ 2 ∷ 3 ∷ 4 ∷ 5 ∷ []) (8 ∷ 9 ∷ []) gives holds (1 ∷ 2 ∷ 3 ∷ 4 ∷ 5 ∷ [])
+    ∷ stored accepted 2 (1 ∷ 2 ∷ 3 ∷ 4 ∷ 5 ∷ []) (8 ∷ 9 ∷ []) gives holds (1 ∷ 2 ∷ 8 ∷ 9 ∷ 5 ∷ [])
+    ∷ stored (refused_by IdUsedEarlier 1) 2 (1 ∷ 2 ∷ 3 ∷ 4 ∷ 5 ∷ []) (8 ∷ 9 ∷ []) gives holds (1 ∷ 2 ∷ 3 ∷ 4 ∷ 5 ∷ [])
     -- at one component 4 is tested before 3; a 3 at an earlier component comes before a 4 at a later one; components before connections
     ∷ checks 3 (plain (5 ∷ 5 ∷ []) (3 ∷ 13 ∷ [])) (joined (8 ∷ []) (8 ∷ []) (7 ∷ [])) gives checked 4 1
     ∷ checks 3 (plain (5 ∷ 5 ∷ 6 ∷ []) (3 ∷ 3 ∷ 13 ∷ [])) (joined (8 ∷ []) (8 ∷ []) (7 ∷ [])) gives checked 3 1
@@ -340,8 +341,8 @@ rows =
     ∷ recording 11 (held 1 2 (0 ∷ 2 ∷ 0 ∷ 0 ∷ 0 ∷ [])) mixed_trace gives record-after (0 ∷ 0 ∷ 3 ∷ 2 ∷ []) (held 2 5 (1 ∷ 2 ∷ 0 ∷ 1 ∷ 1 ∷ []))
     ∷ refuses (held 1 2 (0 ∷ 2 ∷ 0 ∷ 0 ∷ 0 ∷ [])) mixed_trace 7 9
     -- its findings stand after those held; refused, all stays
-    ∷ appended Accepted (held 1 2 (observed 2)) (replicate 6 99) (7 ∷ 9 ∷ 9 ∷ []) gives holds (99 ∷ 99 ∷ 7 ∷ 9 ∷ 9 ∷ 99 ∷ [])
-    ∷ appended (Refused 13 0) (held 1 2 (observed 2)) (replicate 6 99) (7 ∷ 9 ∷ 9 ∷ []) gives holds (replicate 6 99)
+    ∷ appended accepted (held 1 2 (observed 2)) (replicate 6 99) (7 ∷ 9 ∷ 9 ∷ []) gives holds (99 ∷ 99 ∷ 7 ∷ 9 ∷ 9 ∷ 99 ∷ [])
+    ∷ appended (refused_by RecordFull 0) (held 1 2 (observed 2)) (replicate 6 99) (7 ∷ 9 ∷ 9 ∷ []) gives holds (replicate 6 99)
     ∷ []
 
 builds-hold : map (λ r. answer r.asked) rows ≡ map (λ r. r.expected) rows

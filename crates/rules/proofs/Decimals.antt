@@ -2,7 +2,7 @@
 use mathlib.Core.Bool.{Bool, true, false, not, cond, ◌&&◌}
 use mathlib.Core.List.{List, [], ◌∷◌, ◌++◌, append-nil, append_assoc}
 use mathlib.Core.Logic.{◌⊎◌, inl, inr}
-use mathlib.Core.Option.{Option, none, some}
+use Rattle.std.specs.Prelude.{Option, Some, None}
 use mathlib.Core.Path.{◌≡◌, refl, sym, ap, subst, ◌∙◌}
 use Prim.Native.Nat.{ℕ, zero, suc, ◌+◌, ◌*◌, ◌-◌, ◌/◌, ◌%◌, ◌≤◌, ◌<◌}
 use native.Mathlib.Decide.{dec_lt}
@@ -159,15 +159,15 @@ value-decimal [] t = elim t [ ]
 -- Numbers of a width
 
 module _ (most : ℕ) where
-  pub number_read : (n : ℕ) → n ≤ most → number_up_to most (decimal n) ≡ some n
+  pub number_read : (n : ℕ) → n ≤ most → number_up_to most (decimal n) ≡ Some n
   unfolding number_up_to
-  number_read n h = rw (decimal-value n) (chosen (some n) none (is_decimal (decimal n) && leb n most) (and_both (is_decimal (decimal n)) (leb n most) (decimal-is n) (le→leb n most h)))
+  number_read n h = rw (decimal-value n) (chosen (Some n) None (is_decimal (decimal n) && leb n most) (and_both (is_decimal (decimal n)) (leb n most) (decimal-is n) (le→leb n most h)))
 
-  pub number-text : (bs : List ℕ) (n : ℕ) → number_up_to most bs ≡ some n → (bs ≡ decimal n) × (n ≤ most)
+  pub number-text : (bs : List ℕ) (n : ℕ) → number_up_to most bs ≡ Some n → (bs ≡ decimal n) × (n ≤ most)
   unfolding number_up_to
   number-text bs n e = go (is_decimal bs && leb (value bs) most) (λ t. t) e
     where
-      go : (b : Bool) → (T b → T (is_decimal bs && leb (value bs) most)) → cond b (some (value bs)) none ≡ some n → (bs ≡ decimal n) × (n ≤ most)
+      go : (b : Bool) → (T b → T (is_decimal bs && leb (value bs) most)) → cond b (Some (value bs)) None ≡ Some n → (bs ≡ decimal n) × (n ≤ most)
       go false pass e = let z : ◌≡◌ {A = ℕ} 0 1 = cc in absurd (omega arith)
       go true pass e =
           let is : value bs ≡ n = cc in (
@@ -189,31 +189,31 @@ not_negative_lem (b ∷ bs) t =
     not_chosen (negative (number_up_to 2147483648 bs)) (not_negative (number_up_to 2147483647 (b ∷ bs))) (eqb b 45) (λ s. omega (arith, eqb→eq b 45 s, d.1))
 not_negative_lem [] t = elim t [ ]
 
-pub signed-read : (z : ℤ) → Signed32 z → signed_number (signed_decimal z) ≡ some z
+pub signed-read : (z : ℤ) → Signed32 z → signed_number (signed_decimal z) ≡ Some z
 unfolding signed_number
 signed-read (pos n) h = not_negative_lem (decimal n) (decimal-is n) ∙ ap not_negative (number_read 2147483647 n h)
 signed-read (negsuc n) h = ap negative (number_read 2147483648 (suc n) h)
 
-pub signed-text : (bs : List ℕ) (z : ℤ) → signed_number bs ≡ some z → (bs ≡ signed_decimal z) × Signed32 z
+pub signed-text : (bs : List ℕ) (z : ℤ) → signed_number bs ≡ Some z → (bs ≡ signed_decimal z) × Signed32 z
 unfolding signed_number
 signed-text [] z e = let n : ◌≡◌ {A = ℕ} 0 1 = cc in absurd (omega arith)
 signed-text (b ∷ bs) z e = go (eqb b 45) (eqb→eq b 45) e
   where
-    below : (o : Option ℕ) → number_up_to 2147483648 bs ≡ o → negative o ≡ some z → (45 ∷ bs ≡ signed_decimal z) × Signed32 z
-    below none r e = let n : ◌≡◌ {A = ℕ} 0 1 = cc in absurd (omega arith)
-    below (some zero) r e = let n : ◌≡◌ {A = ℕ} 0 1 = cc in absurd (omega arith)
-    below (some (suc n)) r e =
+    below : (o : Option ℕ) → number_up_to 2147483648 bs ≡ o → negative o ≡ Some z → (45 ∷ bs ≡ signed_decimal z) × Signed32 z
+    below None r e = let n : ◌≡◌ {A = ℕ} 0 1 = cc in absurd (omega arith)
+    below (Some zero) r e = let n : ◌≡◌ {A = ℕ} 0 1 = cc in absurd (omega arith)
+    below (Some (suc n)) r e =
         let s = number-text 2147483648 bs (suc n) r in
         let is : negsuc n ≡ z = cc in
         subst (λ z. (45 ∷ bs ≡ signed_decimal z) × Signed32 z) is (ap (λ l. 45 ∷ l) s.0, s.1)
 
-    above : (o : Option ℕ) → number_up_to 2147483647 (b ∷ bs) ≡ o → not_negative o ≡ some z → (b ∷ bs ≡ signed_decimal z) × Signed32 z
-    above none r e = let n : ◌≡◌ {A = ℕ} 0 1 = cc in absurd (omega arith)
-    above (some n) r e =
+    above : (o : Option ℕ) → number_up_to 2147483647 (b ∷ bs) ≡ o → not_negative o ≡ Some z → (b ∷ bs ≡ signed_decimal z) × Signed32 z
+    above None r e = let n : ◌≡◌ {A = ℕ} 0 1 = cc in absurd (omega arith)
+    above (Some n) r e =
         let is : pos n ≡ z = cc in
         subst (λ z. (b ∷ bs ≡ signed_decimal z) × Signed32 z) is (number-text 2147483647 (b ∷ bs) n r)
 
-    go : (c : Bool) → (T c → b ≡ 45) → cond c (negative (number_up_to 2147483648 bs)) (not_negative (number_up_to 2147483647 (b ∷ bs))) ≡ some z → (b ∷ bs ≡ signed_decimal z) × Signed32 z
+    go : (c : Bool) → (T c → b ≡ 45) → cond c (negative (number_up_to 2147483648 bs)) (not_negative (number_up_to 2147483647 (b ∷ bs))) ≡ Some z → (b ∷ bs ≡ signed_decimal z) × Signed32 z
     go true is e = subst (λ c. (c ∷ bs ≡ signed_decimal z) × Signed32 z) (sym (is tt)) (below (number_up_to 2147483648 bs) refl e)
     go false is e = above (number_up_to 2147483647 (b ∷ bs)) refl e
 
@@ -227,22 +227,22 @@ none_first (b ∷ bs) t s = omega (arith, (digit_value b (number-first b bs t)).
 delay-decimal : (d : ℕ) → d ≤ 255 → delay_text d ≡ decimal d
 delay-decimal d h = not_chosen (bytes "none") (decimal d) (eqb d 256) (λ t. omega (arith, eqb→eq d 256 t))
 
-pub delay-read : (d : ℕ) → d ≤ 256 → delay_word (delay_text d) ≡ some d
+pub delay-read : (d : ℕ) → d ≤ 256 → delay_word (delay_text d) ≡ Some d
 unfolding delay_word starts_with
 delay-read d h = go (dec_lt d 256)
   where
-    go : Dec (d < 256) → delay_word (delay_text d) ≡ some d
+    go : Dec (d < 256) → delay_word (delay_text d) ≡ Some d
     go (yes a) =
         ap delay_word (delay-decimal d (omega arith))
-        ∙ not_chosen (some 256) (byte (decimal d)) (starts_with (bytes "none") (decimal d) && eqb (length (decimal d)) 4) (λ t. none_first (decimal d) (decimal-is d) (and_left (starts_with (bytes "none") (decimal d)) (eqb (length (decimal d)) 4) t))
+        ∙ not_chosen (Some 256) (byte (decimal d)) (starts_with (bytes "none") (decimal d) && eqb (length (decimal d)) 4) (λ t. none_first (decimal d) (decimal-is d) (and_left (starts_with (bytes "none") (decimal d)) (eqb (length (decimal d)) 4) t))
         ∙ number_read 255 d (omega arith)
-    go (no a) = let e : 256 ≡ d = omega (arith, a) in subst (λ d. delay_word (delay_text d) ≡ some d) e refl
+    go (no a) = let e : 256 ≡ d = omega (arith, a) in subst (λ d. delay_word (delay_text d) ≡ Some d) e refl
 
-pub delay-text : (bs : List ℕ) (d : ℕ) → delay_word bs ≡ some d → (bs ≡ delay_text d) × (d ≤ 256)
+pub delay-text : (bs : List ℕ) (d : ℕ) → delay_word bs ≡ Some d → (bs ≡ delay_text d) × (d ≤ 256)
 unfolding delay_word
 delay-text bs d e = go (starts_with (bytes "none") bs && eqb (length bs) 4) (λ t. t) e
   where
-    go : (b : Bool) → (T b → T (starts_with (bytes "none") bs && eqb (length bs) 4)) → cond b (some 256) (byte bs) ≡ some d → (bs ≡ delay_text d) × (d ≤ 256)
+    go : (b : Bool) → (T b → T (starts_with (bytes "none") bs && eqb (length bs) 4)) → cond b (Some 256) (byte bs) ≡ Some d → (bs ≡ delay_text d) × (d ≤ 256)
     go true pass e =
         let named = and_left (starts_with (bytes "none") bs) (eqb (length bs) 4) (pass tt) in
         let long = eqb→eq (length bs) 4 (and_right (starts_with (bytes "none") bs) (eqb (length bs) 4) (pass tt)) in

@@ -7,11 +7,10 @@ use Prim.Native.Nat.{ℕ}
 use lib.ListN.{length}
 use Rattle.rules.specs.Scene.{ComponentLists, ConnectionLists, components_of, scene_of, edges}
 use Rattle.rules.specs.Reasons.{feedback}
-use Rattle.rules.specs.Refusals.{SceneLimits, scene_limits, after, Output, output}
+use Rattle.rules.specs.Refusals.{accepted, SceneLimits, scene_limits, after, Output, output}
 use Rattle.rules.specs.Assess.{check_assess}
 use Rattle.rules.specs.Report.{connection_fields}
 use Rattle.rules.specs.Feedback.{check_feedback, feedback_answer, feedback_numbers}
-use Rattle.rules.specs.declared.answers.Checked.TheVariants.{Accepted}
 use Rattle.rules.proofs.Acceptance.{OutputLong, accepted→, →accepted}
 use Rattle.rules.proofs.Questions.{plain, selves, ◌to◌, computes}
 
@@ -33,7 +32,7 @@ feedback-calls = refl
 
 -- where the assessment is accepted, this call is, with the same list 4
 module _ (limits : SceneLimits) (l : ComponentLists) (m : ConnectionLists) where
-  pub assess→feedback : (l3 l4 l5 l6 l7 l8 : List ℕ) → check_assess limits l m l3 l4 l5 l6 l7 l8 ≡ Accepted → check_feedback limits l m l4 ≡ Accepted
+  pub assess→feedback : (l3 l4 l5 l6 l7 l8 : List ℕ) → check_assess limits l m l3 l4 l5 l6 l7 l8 ≡ accepted → check_feedback limits l m l4 ≡ accepted
   unfolding check_assess check_feedback
   assess→feedback l3 l4 l5 l6 l7 l8 e =
       let a = accepted→ limits l m _ e in

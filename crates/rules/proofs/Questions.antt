@@ -12,15 +12,14 @@ use Rattle.rules.specs.Paths.{no_incoming, settled_sources, paths_within, paths_
 use Rattle.rules.specs.Labels.{Label, label, settled_flag, low_sum, high_sum, labels}
 use Rattle.rules.specs.Reasons.{in_feedback, feedback, Reason, reason_kind, reason_component, reason_block, reason_minimum, reason_maximum, feedback_reason, own_reason, unequal_at, unequal_reason, unequal_reasons_by, unequal_reasons, temporal_reasons, reasons, scope, pattern}
 use Rattle.rules.specs.Projection.{compressed, marks, retained, first_edges, next, chain, chain_from, before_last, last_of, flips, inverts_at, ProjectedEdge, projected_by, projected_along, projected, starts_from, path_starts, path_ids, projected_path}
-use Rattle.rules.specs.Refusals.{need_of, scene_limits, Output, output, first_refusal, after_from, after, component_lengths, connection_lengths, out_of_range, used_earlier, component_tests, end_missing, connection_tests, size_tests, scene_tests, check_scene, refusal_number, refusal_place}
+use Rattle.rules.specs.Refusals.{Checked, need_of, scene_limits, Output, output, first_refusal, after_from, after, component_lengths, connection_lengths, out_of_range, used_earlier, component_tests, end_missing, connection_tests, size_tests, scene_tests, check_scene, refusal_number, refusal_place}
 use Rattle.rules.specs.Describe.{TimedEdge, timed_edge, timed_edges, TemporalDevice, temporal_device, device_components, devices, Evidence, evidence_kind, evidence_source, evidence_sink, evidence_component, evidence_block, evidence, describe_outputs, check_describe, description as description_of, description_numbers}
 use Rattle.rules.specs.Assess.{assess_outputs, check_assess, assessment, scene_answer, scene_numbers}
 use Rattle.rules.specs.Report.{component_fields, connection_fields}
 use Rattle.rules.specs.Pulses.{EventLists, event_lists as events, event_at, events_of, is_pulse, pulse_of, pulses_in, event_components, pulses}
 use Rattle.rules.specs.Verdicts.{ContractLists, contract_lists as contracts, contract_at, contracts_of, intent_of, design_intent, classify, Finding, finding_of, findings, finding_component, finding_polarity, finding_unit, finding_start_tick, finding_end_tick, finding_width, finding_steady, finding_baseline, finding_start, finding_end, finding_verdict, finding_rationale, tally, tallies}
-use Rattle.rules.specs.Traces.{TraceLimits, trace_limits, TraceLists, trace_lists as traced, event_count, contract_count, event_lengths, contract_lengths, contract_out_of_range, not_above_before, contract_tests, trace_tests, check_trace, trace_findings, transient_answer, transient_assessment, transient_numbers}
+use Rattle.rules.specs.Traces.{TraceLimits, trace_limits, TraceLists, trace_lists as traced, event_count, contract_count, event_lengths, contract_lengths, contract_out_of_range, not_above_before, contract_tests, trace_tests, check_trace, trace_findings, transient_answer, transient_numbers, transient_tallies}
 use Rattle.rules.specs.Recording.{TransientRecord, record_false, record_tests, check_recording, add_tallies, grown, findings_after, record_after}
-use Rattle.rules.specs.declared.answers.Checked.{Checked}
 
 -- A scene's answer: its numbers, then lists 3 to 7 and 8, an entry of several fields as a row of numbers
 pub record Report : Type 0 where
@@ -161,8 +160,8 @@ answer sizes =
     holds (scene_limits.components ∷ scene_limits.connections ∷ trace_limits.events ∷ trace_limits.contracts ∷ trace_limits.traces ∷ trace_limits.findings_each ∷ [])
 answer (trace t) =
     let c = check_trace trace_limits t (replicate 12 (event_count t)) in
-    let a = transient_assessment c t in
-    judged (record { numbers = transient_numbers a.answer; tallies = a.tallies; findings = after c [] (map finding_row (trace_findings t)) })
+    let a = transient_answer c t in
+    judged (record { numbers = transient_numbers a; tallies = transient_tallies a; findings = after c [] (map finding_row (trace_findings t)) })
 answer (tests limits room t) = refusal (check_trace limits t room)
 answer (compared t) = holds (event_lengths t.events ++ contract_lengths t.contracts)
 answer (recording room r t) =

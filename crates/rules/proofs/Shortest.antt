@@ -8,6 +8,7 @@ use native.Mathlib.Omega.{arith}
 use lib.ListN.{length}
 use lib.Dec.{T, ltb, ltb→lt, lt→ltb}
 use Rattle.rules.specs.Lists.{any}
+use Rattle.rules.specs.declared.answers.RefusalKind.TheVariants.{ListTooShort}
 use Rattle.rules.specs.Refusals.{SceneLimits, test, need_of, shortest, EachListed, outputs_from, output_test, room_outputs, size_tests, scene_tests, check_scene}
 use Rattle.rules.specs.Scene.{ComponentLists, ConnectionLists}
 use Rattle.rules.specs.Describe.{check_describe}
@@ -36,7 +37,7 @@ module _ (n m : ℕ) where
   same_tests : (k : ℕ) (lists : List (List ℕ)) → EachListed lists → map output_test (outputs_from k n m lists) ≡ map output_test (room_outputs n m k (map shortest lists))
   same_tests k [] e = refl
   same_tests k ([] ∷ lists) e = absurd e.0
-  same_tests k ((x ∷ xs) ∷ lists) e = ap₂ (λ b ts. test b 7 k ∷ ts) (short-any (need_of n m k) x xs) (same_tests (suc k) lists e.1)
+  same_tests k ((x ∷ xs) ∷ lists) e = ap₂ (λ b ts. test b ListTooShort k ∷ ts) (short-any (need_of n m k) x xs) (same_tests (suc k) lists e.1)
 
 -- a scene is tested by the shortest lengths as by all of them
 pub shortest-enough : (limits : SceneLimits) (l : ComponentLists) (m : ConnectionLists) (k : ℕ) (lists : List (List ℕ)) → EachListed lists

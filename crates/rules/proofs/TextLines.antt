@@ -3,7 +3,7 @@ use mathlib.Core.Bool.{Bool, true, false, cond, ◌&&◌, ◌||◌}
 use mathlib.Core.List.Memᴰ
 use mathlib.Core.List.{List, [], ◌∷◌, ◌++◌, flat_map, append_assoc, Memᴰ}
 use mathlib.Core.Logic.{◌⊎◌, inl, inr}
-use mathlib.Core.Option.{Option, none, some}
+use Rattle.std.specs.Prelude.{Option, Some, None}
 use mathlib.Core.Path.{◌≡◌, refl, sym, ap, subst, ◌∙◌}
 use Prim.Native.Nat.{ℕ, zero, suc, ◌+◌, ◌*◌, ◌≤◌}
 use native.Mathlib.Nat.{mul-suc}
@@ -94,7 +94,7 @@ not-read r = let z : ◌≡◌ {A = ℕ} 0 1 = cc in omega arith
 
 module _ {A : Type 0} (name : List ℕ) (value : List ℕ → Option A) where
   -- a line with the field's name and a value in its form is read
-  pub field-read : (v : List ℕ) (x : A) (l : ℕ) (rest : List ℕ) → NoFeed name → NoFeed v → value v ≡ some x → field name value (place l (field_line name v ++ rest)) ≡ read x (place (suc l) rest)
+  pub field-read : (v : List ℕ) (x : A) (l : ℕ) (rest : List ℕ) → NoFeed name → NoFeed v → value v ≡ Some x → field name value (place l (field_line name v ++ rest)) ≡ read x (place (suc l) rest)
   unfolding field
   field-read v x l rest f g e =
       let line : List ℕ = name ++ v in
@@ -106,7 +106,7 @@ module _ {A : Type 0} (name : List ℕ) (value : List ℕ → Option A) where
 
   -- and what was read stood so
   pub field-text : (p : Place) (x : A) (q : Place) → field name value p ≡ read x q
-      → (v : List ℕ) × (p.rest ≡ field_line name v ++ q.rest) × (value v ≡ some x) × (q.line ≡ suc p.line) × NoFeed v
+      → (v : List ℕ) × (p.rest ≡ field_line name v ++ q.rest) × (value v ≡ Some x) × (q.line ≡ suc p.line) × NoFeed v
   unfolding field
   field-text p x q r = go (has_line p.rest && starts_with name line) (λ t. t) (value v) refl r
     where
@@ -117,16 +117,16 @@ module _ {A : Type 0} (name : List ℕ) (value : List ℕ → Option A) where
       v = drop (length name) line
 
       go : (b : Bool) → (T b → T (has_line p.rest && starts_with name line)) → (o : Option A) → value v ≡ o → cond b (field_of o p) (broken p.line) ≡ read x q
-          → (v : List ℕ) × (p.rest ≡ field_line name v ++ q.rest) × (value v ≡ some x) × (q.line ≡ suc p.line) × NoFeed v
+          → (v : List ℕ) × (p.rest ≡ field_line name v ++ q.rest) × (value v ≡ Some x) × (q.line ≡ suc p.line) × NoFeed v
       go false pass o e r = absurd (not-read r)
-      go true pass none e r = absurd (not-read r)
-      go true pass (some y) e r =
+      go true pass None e r = absurd (not-read r)
+      go true pass (Some y) e r =
           let has = and_left (has_line p.rest) _ (pass tt) in
           let split : line ≡ name ++ v = starts-split name line (and_right (has_line p.rest) _ (pass tt)) in
           let after : q ≡ place (suc p.line) (after_line p.rest) = cc in
           let same : y ≡ x = cc in
           let whole : p.rest ≡ field_line name v ++ q.rest = line-split p.rest has ∙ ap (λ l. l ++ (line_feed ∷ after_line p.rest)) split ∙ ap (λ r. (name ++ v) ++ (line_feed ∷ r)) (sym (ap (λ p. p.rest) after)) ∙ simp append_assoc in
-          (v, whole, e ∙ ap some same, ap (λ p. p.line) after, feed-right name v (subst NoFeed split (line-no-feed p.rest)))
+          (v, whole, e ∙ ap Some same, ap (λ p. p.line) after, feed-right name v (subst NoFeed split (line-no-feed p.rest)))
 
 -- The form of a thing: its text is read as the thing, over so many lines, and no other text is
 pub record Form {A : Type 0} (reader : Place → Reading A) (text : A → List ℕ) (Fits : A → Type 0) (lines : A → ℕ) : Type 0 where
@@ -142,8 +142,8 @@ as-form form good fits count same = record {
 }
 
 -- a field whose values have one text each
-module _ {A : Type 0} (value : List ℕ → Option A) (write : A → List ℕ) (Fits : A → Type 0) (value_read : (x : A) → Fits x → value (write x) ≡ some x)
-    (value-text : (v : List ℕ) (x : A) → value v ≡ some x → (v ≡ write x) × Fits x) (free : (x : A) → NoFeed (write x)) where
+module _ {A : Type 0} (value : List ℕ → Option A) (write : A → List ℕ) (Fits : A → Type 0) (value_read : (x : A) → Fits x → value (write x) ≡ Some x)
+    (value-text : (v : List ℕ) (x : A) → value v ≡ Some x → (v ≡ write x) × Fits x) (free : (x : A) → NoFeed (write x)) where
   pub field-form : (name : List ℕ) → NoFeed name → Form (field name value) (λ x. field_line name (write x)) Fits (λ x. 1)
   field-form name f = record {
     reads = λ x l rest h. field-read name value (write x) x l rest f (free x) (value_read x h) ∙ ap (λ k. read x (place k rest)) (omega arith);

@@ -7,17 +7,16 @@ use mathlib.Core.Path.{◌≡◌, refl, subst, ◌∙◌}
 use Prim.Native.Nat.{ℕ, zero, suc, ◌+◌, ◌-◌, ◌*◌, ◌≤◌, ◌<◌}
 use native.Mathlib.Omega.{arith}
 use lib.Dec.{T, T_not, not_T, eqb, ltb, leb, eqb→eq, nleb→lt, lt→ltb, leb→le}
-use lib.ListN.{length, get_or, replicate}
+use lib.ListN.{length, get_or}
 use Rattle.rules.specs.Lists.{indices, sum}
 use Rattle.rules.specs.Ordered.{Rises}
-use Rattle.rules.specs.Refusals.{Test, first_refusal, lengths_differ, output}
+use Rattle.rules.specs.Refusals.{Test, Checked, accepted, first_refusal, lengths_differ, output}
 use Rattle.rules.specs.Pulses.{Event, EventLists, EventsAligned, event_at, events_of}
 use Rattle.rules.specs.Verdicts.{Contract, ContractLists, ContractsAligned, contract_at, contracts_of, Finding, FindingLists, FindingsListed}
 use Rattle.rules.specs.Traces.{TraceLimits, TraceLists, event_count, contract_count, event_lengths, contract_lengths, contract_out_of_range, not_above_before, event_test, contract_tests, trace_tests, check_trace, trace_findings, AssessedBy}
 use Rattle.rules.specs.Recording.{TransientRecord, record_false, record_tests, check_recording}
-use Rattle.rules.specs.declared.answers.Checked.{Checked}
-use Rattle.rules.specs.declared.answers.Checked.TheVariants.{Accepted, Refused}
-use Rattle.rules.specs.declared.transient.TransientAnswer.TheVariants as Answer
+use Rattle.std.specs.Prelude.{Err}
+use Rattle.rules.specs.declared.answers.Refusal.{Refusal}
 use Rattle.rules.proofs.Lists.{passes, or-none, and_left, and_right, and_both, eq_test, tests}
 use Rattle.rules.proofs.Indices.{made-length, column, indices-below, below-indices}
 use Rattle.rules.proofs.FirstRefusal.{at_most, all_same, same-all, NoneHold, within, none-nil, none-cons, none-append, none-map, none-flat, none-parts, none_each, none-holds, accepted-if}
@@ -153,19 +152,19 @@ module _ (limits : TraceLimits) (t : TraceLists) (need : ℕ) (lengths : List �
           none-cons (contract-fits-test _ (a.contracts_fit _ (Memᴰ.map (contract_at t.contracts) k))) (none-cons (rises-test t.contracts.components a.contracts_rise i (indices-below _ k)) none-nil)
 
   -- the tests accept a trace exactly where it has these facts
-  pub accepted→trace : first_refusal (trace_tests limits t need lengths) ≡ Accepted → AcceptedTrace limits t need lengths
+  pub accepted→trace : first_refusal (trace_tests limits t need lengths) ≡ accepted → AcceptedTrace limits t need lengths
   accepted→trace e = none→trace (none-holds _ e)
 
-  pub trace→accepted : AcceptedTrace limits t need lengths → first_refusal (trace_tests limits t need lengths) ≡ Accepted
+  pub trace→accepted : AcceptedTrace limits t need lengths → first_refusal (trace_tests limits t need lengths) ≡ accepted
   trace→accepted a = accepted-if _ (trace→none a)
 
 -- so does the trace call, whose list 9 needs one entry for each event
 module _ (limits : TraceLimits) (t : TraceLists) (lengths : List ℕ) where
-  pub checked→trace : check_trace limits t lengths ≡ Accepted → AcceptedTrace limits t (event_count t) lengths
+  pub checked→trace : check_trace limits t lengths ≡ accepted → AcceptedTrace limits t (event_count t) lengths
   unfolding check_trace
   checked→trace = accepted→trace limits t (event_count t) lengths
 
-  pub trace→checked : AcceptedTrace limits t (event_count t) lengths → check_trace limits t lengths ≡ Accepted
+  pub trace→checked : AcceptedTrace limits t (event_count t) lengths → check_trace limits t lengths ≡ accepted
   unfolding check_trace
   trace→checked = trace→accepted limits t (event_count t) lengths
 
@@ -185,7 +184,7 @@ module _ (limits : TraceLimits) (r : TransientRecord) where
 
 -- a recording is accepted exactly where it has these facts
 module _ (limits : TraceLimits) (r : TransientRecord) (t : TraceLists) (lengths : List ℕ) where
-  pub checked→recording : check_recording limits r t lengths ≡ Accepted → AcceptedRecording limits r t lengths
+  pub checked→recording : check_recording limits r t lengths ≡ accepted → AcceptedRecording limits r t lengths
   unfolding check_recording record_tests
   checked→recording e = record {
     record_true = not-false→true limits r (none _ (Memᴰ.head refl));
@@ -196,7 +195,7 @@ module _ (limits : TraceLimits) (r : TransientRecord) (t : TraceLists) (lengths 
       none : NoneHold (record_tests limits r t lengths)
       none = none-holds _ e
 
-  pub recording→checked : AcceptedRecording limits r t lengths → check_recording limits r t lengths ≡ Accepted
+  pub recording→checked : AcceptedRecording limits r t lengths → check_recording limits r t lengths ≡ accepted
   unfolding check_recording record_tests
   recording→checked a =
       accepted-if _ (none-cons (true→not-false limits r a.record_true) (none-cons (λ s. omega (arith, a.traces_few, leb→le limits.traces r.traces s))
@@ -273,6 +272,5 @@ untouched fs o =
     }
 
 -- the answer of a call that is refused
-pub refused-assessed : {v : Checked} {start number place : ℕ} {t : TraceLists} (old : FindingLists) → v ≡ Refused number place
-    → AssessedBy v start t old old (record { answer = Answer.Refused number place; tallies = replicate 5 0 })
-refused-assessed {t = t} old e = rw e (record { assessed = refl; numbered = refl; listed = untouched (trace_findings t) old })
+pub refused-assessed : {v : Checked} {start : ℕ} {r : Refusal} {t : TraceLists} (old : FindingLists) → v ≡ Err r → AssessedBy v start t old old (Err r)
+refused-assessed {t = t} old e = rw e (record { assessed = refl; numbered = refl; tallied = refl; listed = untouched (trace_findings t) old })

@@ -1,18 +1,15 @@
 -- The answer of the call that writes lists 3 to 8. Assumes nothing: these are definitions.
-use Rattle.std.specs.Prelude.{not, List, [], ◌∷◌, map, ◌≡◌, ℕ, length, get_or}
+use Rattle.std.specs.Prelude.{Result, Ok, Err, not, List, [], ◌∷◌, map, ◌≡◌, ℕ, length, get_or}
 use Rattle.rules.specs.Lists.{count}
-use Rattle.rules.specs.Codes.{scope_code, pattern_code}
+use Rattle.rules.specs.Codes.{scope_code, pattern_code, refusal_code}
 use Rattle.rules.specs.Scene.{Component, Scene, ComponentLists, ConnectionLists, scene_of, edges}
 use Rattle.rules.specs.Labels.{labels, settled_flag, low_sum, high_sum}
 use Rattle.rules.specs.Reasons.{reasons, reason_kind, reason_component, reason_block, reason_minimum, reason_maximum, feedback, scope, pattern}
 use Rattle.rules.specs.Projection.{ProjectedEdge, compressed, marks, projected, path_starts, path_length, path_ids, projected_path}
 use Rattle.rules.specs.Graph.{Edge}
-use Rattle.rules.specs.Refusals.{SceneLimits, Output, after, outputs_from, check_scene}
+use Rattle.rules.specs.Refusals.{Checked, SceneLimits, Output, after, answer_of, outputs_from, check_scene}
 use Rattle.rules.specs.declared.answers.Assessment.{Assessment}
-use Rattle.rules.specs.declared.answers.Checked.{Checked}
-use Rattle.rules.specs.declared.answers.Checked.TheVariants.{Accepted, Refused}
-use Rattle.rules.specs.declared.answers.SceneAnswer.{SceneAnswer}
-use Rattle.rules.specs.declared.answers.SceneAnswer.TheVariants as Answer
+use Rattle.rules.specs.declared.answers.Refusal.{Refusal}
 
 -- the output lists of the call: 3 to 8
 abbrev pub assess_outputs : (n m : ℕ) → (reason_lengths feedback_lengths mark_lengths projected_lengths path_lengths label_lengths : List ℕ) → List Output
@@ -38,14 +35,13 @@ assessment cs es =
     }
 
 -- the answer: the refusal, or the assessment
-abbrev pub scene_answer : Checked → Scene → SceneAnswer
-scene_answer Accepted s = Answer.Assessed (assessment s.components (edges s))
-scene_answer (Refused number place) s = Answer.Refused number place
+abbrev pub scene_answer : Checked → Scene → Result Assessment Refusal
+scene_answer checked s = answer_of checked (assessment s.components (edges s))
 
 -- the answer's numbers: refusal, place, scope, pattern, confidence, then the counts
-abbrev pub scene_numbers : SceneAnswer → List ℕ
-scene_numbers (Answer.Refused number place) = number ∷ place ∷ 0 ∷ 0 ∷ 0 ∷ 0 ∷ 0 ∷ 0 ∷ 0 ∷ 0 ∷ 0 ∷ []
-scene_numbers (Answer.Assessed a) =
+abbrev pub scene_numbers : Result Assessment Refusal → List ℕ
+scene_numbers (Err r) = refusal_code r.kind ∷ r.place ∷ 0 ∷ 0 ∷ 0 ∷ 0 ∷ 0 ∷ 0 ∷ 0 ∷ 0 ∷ 0 ∷ []
+scene_numbers (Ok a) =
     0 ∷ 0 ∷ scope_code a.scope ∷ pattern_code a.pattern ∷ a.confidence ∷ a.reasons ∷ a.feedback ∷ a.retained ∷ a.compressed ∷ a.projected
     ∷ a.path_ids ∷ []
 
@@ -99,7 +95,7 @@ assess_checked limits l m o =
     (length o.label_settled ∷ length o.label_lows ∷ length o.label_highs ∷ [])
 
 -- given what the checks find: the answer, and what each list holds after the call
-pub record AssessedBy (checked : Checked) (s : Scene) (old new : AssessLists) (answer : SceneAnswer) : Type 0 where
+pub record AssessedBy (checked : Checked) (s : Scene) (old new : AssessLists) (answer : Result Assessment Refusal) : Type 0 where
   pub answered : answer ≡ scene_answer checked s
   pub numbered : scene_numbers answer ≡ scene_numbers (scene_answer checked s)
   pub reason_kinds : new.reason_kinds ≡ after checked old.reason_kinds (map reason_kind (reasons s.components (edges s)))
@@ -122,5 +118,5 @@ pub record AssessedBy (checked : Checked) (s : Scene) (old new : AssessLists) (a
   pub label_highs : new.label_highs ≡ after checked old.label_highs (map high_sum (labels s.components (edges s)))
 
 -- the call
-abbrev pub AssessCall : SceneLimits → ComponentLists → ConnectionLists → (old new : AssessLists) → SceneAnswer → Type 0
+abbrev pub AssessCall : SceneLimits → ComponentLists → ConnectionLists → (old new : AssessLists) → Result Assessment Refusal → Type 0
 AssessCall limits l m old new answer = AssessedBy (assess_checked limits l m old) (scene_of l m) old new answer

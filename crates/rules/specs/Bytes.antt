@@ -1,6 +1,5 @@
 -- Texts and numbers as bytes. Assumes nothing: these are definitions.
-use Rattle.std.specs.Prelude.{Bool, false, not, cond, ◌&&◌, List, [], ◌∷◌, ◌++◌, ℕ, zero, suc, ◌+◌, ◌*◌, ◌-◌, ◌/◌, ◌%◌, eqb, ltb, leb, ℤ, pos, negsuc}
-use Rattle.std.proofs.Math.Option.{Option, none, some}
+use Rattle.std.specs.Prelude.{Option, Some, None, Bool, false, not, cond, ◌&&◌, List, [], ◌∷◌, ◌++◌, ℕ, zero, suc, ◌+◌, ◌*◌, ◌-◌, ◌/◌, ◌%◌, eqb, ltb, leb, ℤ, pos, negsuc}
 use Prim.Native.Char.{code}
 use Prim.Native.String.{String, [] as end, ◌∷◌ as ◌then◌}
 use Rattle.rules.specs.Lists.{not_empty, every}
@@ -39,21 +38,21 @@ is_decimal bs = not_empty bs && (every is_digit bs && not (leading_zero bs))
 
 -- "and fit their width": a number from 0 to the largest of the width
 unfoldable pub number_up_to : ℕ → List ℕ → Option ℕ
-number_up_to most bs = cond (is_decimal bs && leb (value bs) most) (some (value bs)) none
+number_up_to most bs = cond (is_decimal bs && leb (value bs) most) (Some (value bs)) None
 
 abbrev pub not_negative : Option ℕ → Option ℤ
-not_negative none = none
-not_negative (some n) = some (pos n)
+not_negative None = None
+not_negative (Some n) = Some (pos n)
 
 -- "`-0` is no number"
 abbrev pub negative : Option ℕ → Option ℤ
-negative none = none
-negative (some zero) = none
-negative (some (suc n)) = some (negsuc n)
+negative None = None
+negative (Some zero) = None
+negative (Some (suc n)) = Some (negsuc n)
 
 -- "a position of three signed 32-bit numbers"; "only x, y, z may be negative"
 unfoldable pub signed_number : List ℕ → Option ℤ
-signed_number [] = none
+signed_number [] = None
 signed_number (b ∷ bs) = cond (eqb b (code "-")) (negative (number_up_to 2147483648 bs)) (not_negative (number_up_to 2147483647 (b ∷ bs)))
 
 -- Writing a number

@@ -1,5 +1,7 @@
 -- "Enum values become numbers from 0 in the Rust's order, block kinds by the kind table". Assumes nothing: these are definitions.
-use Rattle.std.specs.Prelude.{cond, ℕ, eqb}
+use Rattle.std.specs.Prelude.{cond, ℕ, ◌+◌, eqb}
+use Rattle.rules.specs.declared.answers.RefusalKind.{RefusalKind}
+use Rattle.rules.specs.declared.answers.RefusalKind.TheVariants as Kind
 use Rattle.rules.specs.declared.kinds.EdgeBehavior.{EdgeBehavior}
 use Rattle.rules.specs.declared.kinds.EdgeBehavior.TheVariants.{Immediate, DelayedForward, DelayedInvert, Analog, Mechanical, OrderSensitive}
 use Rattle.rules.specs.declared.kinds.TemporalSemantics.{TemporalSemantics}
@@ -12,6 +14,8 @@ use Rattle.rules.specs.declared.transient.PulsePolarity.{PulsePolarity}
 use Rattle.rules.specs.declared.transient.PulsePolarity.TheVariants.{High, Low}
 use Rattle.rules.specs.declared.transient.TraceTimeUnit.{TraceTimeUnit}
 use Rattle.rules.specs.declared.transient.TraceTimeUnit.TheVariants.{RedstoneTick, GameTick}
+use Rattle.rules.specs.declared.transient.Rationale.{Rationale}
+use Rattle.rules.specs.declared.transient.Rationale.TheVariants as Why
 use Rattle.rules.specs.declared.transient.TransientVerdict.{TransientVerdict}
 use Rattle.rules.specs.declared.transient.TransientVerdict.TheVariants.{PulseObserved, TransientDeviation, HazardCandidate, HazardConfirmed, IntentionalPulse}
 
@@ -63,3 +67,31 @@ verdict_code TransientDeviation = 1
 verdict_code HazardCandidate = 2
 verdict_code HazardConfirmed = 3
 verdict_code IntentionalPulse = 4
+
+-- "The ten rationale texts become codes 0 to 9 in `classify`'s order, Stable's four by wanted level (0 first), then polarity."
+abbrev pub rationale_code : Rationale → ℕ
+rationale_code Why.NoIntent = 0
+rationale_code Why.SteadyStateOnly = 1
+rationale_code (Why.Stable wanted polarity) = 2 + (cond wanted 2 0 + polarity_code polarity)
+rationale_code Why.PulseFits = 6
+rationale_code Why.PulseDiffers = 7
+rationale_code Why.WithinTolerance = 8
+rationale_code Why.PastTolerance = 9
+
+-- the numbers of the table of refusals: Number | Condition | Place
+abbrev pub refusal_code : RefusalKind → ℕ
+refusal_code Kind.TooManyComponents = 1
+refusal_code Kind.TooManyConnections = 2
+refusal_code Kind.IdUsedEarlier = 3
+refusal_code Kind.ComponentOutOfRange = 4
+refusal_code Kind.TransferOutOfRange = 5
+refusal_code Kind.EndMissing = 6
+refusal_code Kind.ListTooShort = 7
+refusal_code Kind.LengthsDiffer = 8
+refusal_code Kind.TooManyEvents = 9
+refusal_code Kind.TooManyContracts = 10
+refusal_code Kind.TraceOutOfRange = 11
+refusal_code Kind.ContractsNotRising = 12
+refusal_code Kind.RecordFull = 13
+refusal_code Kind.TextNotInForm = 14
+refusal_code Kind.RecordFalse = 15

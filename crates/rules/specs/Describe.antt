@@ -1,16 +1,13 @@
 -- Lists 0, 1 and 2: timed edges, devices and evidence. Assumes nothing: these are definitions.
-use Rattle.std.specs.Prelude.{List, [], ◌∷◌, ◌++◌, map, ◌≡◌, ℕ, ℤ, length}
+use Rattle.std.specs.Prelude.{Option, Some, None, Result, Ok, Err, List, [], ◌∷◌, ◌++◌, map, ◌≡◌, ℕ, ℤ, length}
 use Rattle.rules.specs.Lists.{keep}
 use Rattle.rules.specs.Kinds.{is_device}
-use Rattle.rules.specs.Codes.{behavior_code, semantics_code}
+use Rattle.rules.specs.Codes.{behavior_code, semantics_code, refusal_code}
 use Rattle.rules.specs.Scene.{Component, Connection, Scene, ComponentLists, ConnectionLists, scene_of, is_edge, row_of, delay_of, row_at, delay_at}
-use Rattle.rules.specs.Refusals.{SceneLimits, Output, after, outputs_from, check_scene}
-use Rattle.rules.specs.declared.kinds.DeviceMeaning.{DeviceMeaning}
-use Rattle.rules.specs.declared.kinds.DeviceMeaning.TheVariants.{NoDevice, Device}
-use Rattle.rules.specs.declared.answers.Checked.{Checked}
-use Rattle.rules.specs.declared.answers.Checked.TheVariants.{Accepted, Refused}
+use Rattle.rules.specs.Refusals.{Checked, SceneLimits, Output, after, answer_of, outputs_from, check_scene}
+use Rattle.rules.specs.declared.kinds.TemporalSemantics.{TemporalSemantics}
 use Rattle.rules.specs.declared.answers.Description.{Description}
-use Rattle.rules.specs.declared.answers.Description.TheVariants as Answer
+use Rattle.rules.specs.declared.answers.Refusal.{Refusal}
 
 -- an entry of list 0
 pub record TimedEdge : Type 0 where
@@ -44,9 +41,9 @@ pub record TemporalDevice : Type 0 where
   pub semantics : ℕ
   pub minimum_delay : ℕ
 
-abbrev pub meaning_code : DeviceMeaning → ℕ
-meaning_code NoDevice = 0
-meaning_code (Device s) = semantics_code s
+abbrev pub meaning_code : Option TemporalSemantics → ℕ
+meaning_code None = 0
+meaning_code (Some s) = semantics_code s
 
 unfoldable pub temporal_device : Component → TemporalDevice
 temporal_device c =
@@ -106,15 +103,18 @@ unfoldable pub check_describe : SceneLimits → ComponentLists → ConnectionLis
 check_describe limits l m l0 l1 l2 = check_scene limits l m (describe_outputs (length l.ids) (length m.sources) l0 l1 l2)
 
 -- the answer: the refusal, or how many entries of each list are used
-abbrev pub description : Checked → Scene → Description
-description Accepted s =
-    Answer.Described (length (timed_edges s.components s.connections)) (length (devices s.components)) (length (evidence s.components s.connections))
-description (Refused number place) s = Answer.Refused number place
+abbrev pub description : Checked → Scene → Result Description Refusal
+description checked s =
+    answer_of checked (record {
+      timed_edges = length (timed_edges s.components s.connections);
+      devices = length (devices s.components);
+      evidence = length (evidence s.components s.connections);
+    })
 
 -- the answer's numbers: refusal, place, then the counts of lists 0, 1 and 2
-abbrev pub description_numbers : Description → List ℕ
-description_numbers (Answer.Refused number place) = number ∷ place ∷ 0 ∷ 0 ∷ 0 ∷ []
-description_numbers (Answer.Described edges devices evidence) = 0 ∷ 0 ∷ edges ∷ devices ∷ evidence ∷ []
+abbrev pub description_numbers : Result Description Refusal → List ℕ
+description_numbers (Err r) = refusal_code r.kind ∷ r.place ∷ 0 ∷ 0 ∷ 0 ∷ []
+description_numbers (Ok a) = 0 ∷ 0 ∷ a.timed_edges ∷ a.devices ∷ a.evidence ∷ []
 
 -- the number lists that the call is lent to write, one for each field of lists 0, 1 and 2
 pub record DescribeLists : Type 0 where
@@ -149,7 +149,7 @@ describe_checked limits l m o =
     (length o.evidence_kinds ∷ length o.evidence_sources ∷ length o.evidence_sinks ∷ length o.evidence_components ∷ length o.evidence_blocks ∷ [])
 
 -- given what the checks find: the answer, and what each list holds after the call
-pub record DescribedBy (checked : Checked) (s : Scene) (old new : DescribeLists) (answer : Description) : Type 0 where
+pub record DescribedBy (checked : Checked) (s : Scene) (old new : DescribeLists) (answer : Result Description Refusal) : Type 0 where
   pub answered : answer ≡ description checked s
   pub numbered : description_numbers answer ≡ description_numbers (description checked s)
   pub edge_sources : new.edge_sources ≡ after checked old.edge_sources (map (λ e. e.source) (timed_edges s.components s.connections))
@@ -170,5 +170,5 @@ pub record DescribedBy (checked : Checked) (s : Scene) (old new : DescribeLists)
   pub evidence_blocks : new.evidence_blocks ≡ after checked old.evidence_blocks (map evidence_block (evidence s.components s.connections))
 
 -- the call
-abbrev pub DescribeCall : SceneLimits → ComponentLists → ConnectionLists → (old new : DescribeLists) → Description → Type 0
+abbrev pub DescribeCall : SceneLimits → ComponentLists → ConnectionLists → (old new : DescribeLists) → Result Description Refusal → Type 0
 DescribeCall limits l m old new answer = DescribedBy (describe_checked limits l m old) (scene_of l m) old new answer

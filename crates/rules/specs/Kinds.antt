@@ -1,10 +1,8 @@
 -- The kind table. Assumes nothing: these are definitions.
-use Rattle.std.specs.Prelude.{Bool, true, false, cond, List, [], ◌∷◌, ℕ, ltb, get_or}
+use Rattle.std.specs.Prelude.{Option, Some, None, Bool, true, false, cond, List, [], ◌∷◌, ℕ, ltb, get_or}
 use Rattle.rules.specs.declared.kinds.TemporalNodeKind.TheVariants.{Source, Wire, Inverter, Delay, Comparator, Actuator, Conductor}
 use Rattle.rules.specs.declared.kinds.EdgeBehavior.{EdgeBehavior}
 use Rattle.rules.specs.declared.kinds.TemporalSemantics.{TemporalSemantics}
-use Rattle.rules.specs.declared.kinds.DeviceMeaning.{DeviceMeaning}
-use Rattle.rules.specs.declared.kinds.DeviceMeaning.TheVariants.{NoDevice, Device}
 use Rattle.rules.specs.declared.kinds.KindDelay.{KindDelay}
 use Rattle.rules.specs.declared.kinds.KindDelay.TheVariants.{Fixed, Own}
 use Rattle.rules.specs.declared.kinds.KindRow.{KindRow}
@@ -12,26 +10,26 @@ use Rattle.rules.specs.declared.kinds.EdgeTiming.{EdgeTiming}
 
 -- the rows of the table: Code | Kind | Node | Delay | Edge behaviour, and for "Kinds 9 to 12 are devices" what they mean
 abbrev pub conductor : KindRow
-conductor = record { node = Conductor; delay = Fixed 0; behavior = EdgeBehavior.Immediate; meaning = NoDevice }
+conductor = record { node = Conductor; delay = Fixed 0; behavior = EdgeBehavior.Immediate; meaning = None }
 
 abbrev pub source : KindRow
-source = record { node = Source; delay = Fixed 0; behavior = EdgeBehavior.Immediate; meaning = NoDevice }
+source = record { node = Source; delay = Fixed 0; behavior = EdgeBehavior.Immediate; meaning = None }
 
 abbrev pub wire : KindRow
-wire = record { node = Wire; delay = Fixed 0; behavior = EdgeBehavior.OrderSensitive; meaning = NoDevice }
+wire = record { node = Wire; delay = Fixed 0; behavior = EdgeBehavior.OrderSensitive; meaning = None }
 
 abbrev pub torch : KindRow
-torch = record { node = Inverter; delay = Fixed 1; behavior = EdgeBehavior.DelayedInvert; meaning = Device TemporalSemantics.DelayedInvert }
+torch = record { node = Inverter; delay = Fixed 1; behavior = EdgeBehavior.DelayedInvert; meaning = Some TemporalSemantics.DelayedInvert }
 
 -- "own; absent 1"
 abbrev pub repeater : KindRow
-repeater = record { node = Delay; delay = Own 1; behavior = EdgeBehavior.DelayedForward; meaning = Device TemporalSemantics.DelayedForward }
+repeater = record { node = Delay; delay = Own 1; behavior = EdgeBehavior.DelayedForward; meaning = Some TemporalSemantics.DelayedForward }
 
 abbrev pub comparator : KindRow
-comparator = record { node = Comparator; delay = Fixed 0; behavior = EdgeBehavior.Analog; meaning = Device TemporalSemantics.CompareOrSubtract }
+comparator = record { node = Comparator; delay = Fixed 0; behavior = EdgeBehavior.Analog; meaning = Some TemporalSemantics.CompareOrSubtract }
 
 abbrev pub piston : KindRow
-piston = record { node = Actuator; delay = Fixed 1; behavior = EdgeBehavior.Mechanical; meaning = Device TemporalSemantics.MechanicalActuation }
+piston = record { node = Actuator; delay = Fixed 1; behavior = EdgeBehavior.Mechanical; meaning = Some TemporalSemantics.MechanicalActuation }
 
 -- the codes of three kinds that the reasons name
 abbrev pub repeater_code : ℕ
@@ -73,6 +71,6 @@ edge_timing code word =
 unfoldable pub is_device : KindRow → Bool
 is_device row = meant row.meaning
   where
-    meant : DeviceMeaning → Bool
-    meant NoDevice = false
-    meant (Device s) = true
+    meant : Option TemporalSemantics → Bool
+    meant None = false
+    meant (Some s) = true

@@ -5,6 +5,7 @@ pub mod Ordered
 pub mod Delay
 pub mod Kinds
 pub mod Codes
+pub mod Decoded
 -- the scene, its edges and paths, and what is said of them:
 pub mod Graph
 pub mod Scene
@@ -27,3 +28,5 @@ pub mod Recording
 -- the report program: the text of a scene, and what is printed:
 pub mod Text
 pub mod Report
+-- the structs by which these lists are lent:
+pub mod Lent

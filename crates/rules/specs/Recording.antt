@@ -1,11 +1,10 @@
 -- Recording a trace. Assumes nothing: these are definitions.
-use Rattle.std.specs.Prelude.{Bool, not, ◌||◌, List, ◌∷◌, map, ◌≡◌, ℕ, suc, ◌+◌, ◌*◌, eqb, leb, ltb, length, get_or}
+use Rattle.std.specs.Prelude.{Ok, Err, Bool, not, ◌||◌, List, ◌∷◌, map, ◌≡◌, ℕ, suc, ◌+◌, ◌*◌, eqb, leb, ltb, length, get_or}
 use Rattle.rules.specs.Lists.{sum, indices}
-use Rattle.rules.specs.Refusals.{Test, test, first_refusal, after_from}
+use Rattle.rules.specs.Refusals.{Checked, Test, test, first_refusal, after_from}
 use Rattle.rules.specs.Verdicts.{Finding, tallies, FindingLists, finding_lengths, FindingsListed}
 use Rattle.rules.specs.Traces.{TraceLimits, TraceLists, event_count, trace_tests, trace_findings, transient_answer, transient_numbers}
-use Rattle.rules.specs.declared.answers.Checked.{Checked}
-use Rattle.rules.specs.declared.answers.Checked.TheVariants.{Accepted, Refused}
+use Rattle.rules.specs.declared.answers.RefusalKind.TheVariants.{RecordFull, RecordFalse}
 
 -- "traces held, findings held, five tallies"
 pub record TransientRecord : Type 0 where
@@ -20,7 +19,7 @@ record_false limits r = not (eqb (sum r.tallies) r.findings) || ltb (limits.find
 -- "Recording puts 15, then 13 first." "the list needs findings held plus events"
 unfoldable pub record_tests : TraceLimits → TransientRecord → TraceLists → (lengths : List ℕ) → List Test
 record_tests limits r t lengths =
-    test (record_false limits r) 15 0 ∷ test (leb limits.traces r.traces) 13 0 ∷ trace_tests limits t (r.findings + event_count t) lengths
+    test (record_false limits r) RecordFalse 0 ∷ test (leb limits.traces r.traces) RecordFull 0 ∷ trace_tests limits t (r.findings + event_count t) lengths
 
 unfoldable pub check_recording : TraceLimits → TransientRecord → TraceLists → (lengths : List ℕ) → Checked
 check_recording limits r t lengths = first_refusal (record_tests limits r t lengths)
@@ -41,8 +40,8 @@ module _ {A : Type 0} where
 
 -- the record after the call: as it was, under a refusal
 abbrev pub record_after : Checked → TransientRecord → TraceLists → TransientRecord
-record_after Accepted r t = grown r (trace_findings t)
-record_after (Refused number place) r t = r
+record_after (Ok u) r t = grown r (trace_findings t)
+record_after (Err e) r t = r
 
 -- given what the checks find: the answer's numbers, of which the findings are those of this trace; the record after the call; and what list 9
 -- holds then

@@ -1,38 +1,56 @@
 -- The tests of the refusals and their order, with those of a scene: 1 to 8. Refusals 9 to 12 are in Traces, 13 and 15 in Recording.
 -- Assumes nothing: these are definitions.
-use Rattle.std.specs.Prelude.{Bool, false, not, cond, ◌&&◌, ◌||◌, ◌≡◌, ℕ, suc, ◌+◌, ◌*◌, min, T, eqb, ltb, length, get_or, take}
+use Rattle.std.specs.Prelude.{Result, Ok, Err, Bool, false, not, cond, ◌&&◌, ◌||◌, ◌≡◌, ℕ, suc, ◌+◌, ◌*◌, min, T, eqb, ltb, length, get_or, take}
 use mathlib.Core.List.{List, [], ◌∷◌, ◌++◌, map, flat_map}
 use Rattle.rules.specs.Lists.{not_empty, any, indices, written_from}
 use Rattle.rules.specs.Scene.{Component, Connection, ComponentLists, ConnectionLists, component_at, connection_at, is_edge}
-use Rattle.rules.specs.declared.answers.Checked.{Checked}
-use Rattle.rules.specs.declared.answers.Checked.TheVariants.{Accepted, Refused}
+use Rattle.rules.specs.Codes.{refusal_code}
+use Rattle.rules.specs.declared.answers.Refusal.{Refusal}
+use Rattle.rules.specs.declared.answers.RefusalKind.{RefusalKind}
+use Rattle.rules.specs.declared.answers.RefusalKind.TheVariants.{TooManyComponents, TooManyConnections, IdUsedEarlier, ComponentOutOfRange, TransferOutOfRange, EndMissing, ListTooShort, LengthsDiffer}
 
 -- one condition of the table of refusals, at one place
 pub record Test : Type 0 where
   pub holds : Bool
-  pub number : ℕ
+  pub kind : RefusalKind
   pub place : ℕ
 
-abbrev pub test : Bool → ℕ → ℕ → Test
-test b n p = record { holds = b; number = n; place = p }
+abbrev pub test : Bool → RefusalKind → ℕ → Test
+test b k p = record { holds = b; kind = k; place = p }
+
+-- what the checks find: that a call is accepted, or why it is not
+abbrev pub Checked : Type 0
+Checked = Result (Unit {0}) Refusal
+
+abbrev pub accepted : Checked
+accepted = Ok tt
+
+abbrev pub refused : RefusalKind → ℕ → Checked
+refused k p = Err (record { kind = k; place = p })
 
 -- the first condition that holds. The tests of a step are listed by rising place: "Within one step of this order the lowest place is given.
 -- A condition that doesn't hold never gives its number."
 unfoldable pub first_refusal : List Test → Checked
-first_refusal [] = Accepted
+first_refusal [] = accepted
 first_refusal (t ∷ ts) =
     let r = first_refusal ts in
-    cond t.holds (Refused t.number t.place) r
+    cond t.holds (refused t.kind t.place) r
 
 -- "Each returns its number and a place; every lent list and the record keep their contents.": what a lent list holds after a call
 -- whose entries are to be written from a place on
 module _ {A : Type 0} where
   abbrev pub after_from : Checked → ℕ → List A → List A → List A
-  after_from Accepted start old new = written_from start old new
-  after_from (Refused number place) start old new = old
+  after_from (Ok u) start old new = written_from start old new
+  after_from (Err r) start old new = old
 
   abbrev pub after : Checked → List A → List A → List A
   after checked old new = after_from checked 0 old new
+
+-- an answer: what is said of an accepted call, or why it is refused
+module _ {A : Type 0} where
+  abbrev pub answer_of : Checked → A → Result A Refusal
+  answer_of (Ok u) a = Ok a
+  answer_of (Err r) a = Err r
 
 -- the sizes that a scene may have
 pub record SceneLimits : Type 0 where
@@ -92,7 +110,7 @@ connection_lengths l = length l.sources ∷ length l.sinks ∷ length l.transfer
 
 -- 7: "output list shorter than needed", "A list of several fields is one number list for each field, and 7 tests every one."
 abbrev pub output_test : Output → Test
-output_test o = test (any (λ n. ltb n o.need) o.lengths) 7 o.number
+output_test o = test (any (λ n. ltb n o.need) o.lengths) ListTooShort o.number
 
 -- 4: "kind over 12, delay word over 256 or locked over 1"
 unfoldable pub out_of_range : Component → Bool
@@ -104,7 +122,7 @@ used_earlier ids i = any (eqb (get_or ids i 0)) (take i ids)
 
 -- "components one by one (4 then 3)"
 unfoldable pub component_tests : ComponentLists → ℕ → List Test
-component_tests l i = test (out_of_range (component_at l i)) 4 i ∷ test (used_earlier l.ids i) 3 i ∷ []
+component_tests l i = test (out_of_range (component_at l i)) ComponentOutOfRange i ∷ test (used_earlier l.ids i) IdUsedEarlier i ∷ []
 
 -- 5: "transfer over 6"
 abbrev pub bad_transfer : Connection → Bool
@@ -116,7 +134,7 @@ end_missing ids n = is_edge n && (not (any (eqb n.source) ids) || not (any (eqb 
 
 -- "connections one by one (5 then 6)"
 unfoldable pub connection_tests : ComponentLists → ConnectionLists → ℕ → List Test
-connection_tests l m j = test (bad_transfer (connection_at m j)) 5 j ∷ test (end_missing l.ids (connection_at m j)) 6 j ∷ []
+connection_tests l m j = test (bad_transfer (connection_at m j)) TransferOutOfRange j ∷ test (end_missing l.ids (connection_at m j)) EndMissing j ∷ []
 
 -- the tests of n rows, one by one
 abbrev pub rows : (ℕ → List Test) → ℕ → List Test
@@ -125,8 +143,9 @@ rows tests n = flat_map tests (indices n)
 -- 8, 1, 2 and 7
 unfoldable pub size_tests : SceneLimits → ComponentLists → ConnectionLists → List Output → List Test
 size_tests limits l m outputs =
-    test (lengths_differ (component_lengths l)) 8 0 ∷ test (lengths_differ (connection_lengths m)) 8 1 ∷ test (ltb limits.components (length l.ids)) 1 (length l.ids)
-    ∷ test (ltb limits.connections (length m.sources)) 2 (length m.sources) ∷ map output_test outputs
+    test (lengths_differ (component_lengths l)) LengthsDiffer 0 ∷ test (lengths_differ (connection_lengths m)) LengthsDiffer 1
+    ∷ test (ltb limits.components (length l.ids)) TooManyComponents (length l.ids)
+    ∷ test (ltb limits.connections (length m.sources)) TooManyConnections (length m.sources) ∷ map output_test outputs
 
 -- "Order for a scene: 8, 1, 2, 7, components one by one (4 then 3), connections one by one (5 then 6)."
 unfoldable pub scene_tests : SceneLimits → ComponentLists → ConnectionLists → List Output → List Test
@@ -138,12 +157,12 @@ check_scene limits l m outputs = first_refusal (scene_tests limits l m outputs)
 
 -- The number and place of what the checks find; an accepted call has 0 for both
 abbrev pub refusal_number : Checked → ℕ
-refusal_number Accepted = 0
-refusal_number (Refused number place) = number
+refusal_number (Ok u) = 0
+refusal_number (Err r) = refusal_code r.kind
 
 abbrev pub refusal_place : Checked → ℕ
-refusal_place Accepted = 0
-refusal_place (Refused number place) = place
+refusal_place (Ok u) = 0
+refusal_place (Err r) = r.place
 
 -- a call that only checks: its answer, with its number and place
 pub record CheckCall (checked answer : Checked) : Type 0 where

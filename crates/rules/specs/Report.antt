@@ -1,18 +1,19 @@
 -- What the program prints: the report of a scene, or a refusal. Assumes nothing: these are definitions.
-use Rattle.std.specs.Prelude.{not, ◌≡◌, ℕ, ◌≤◌, length}
+use Rattle.std.specs.Prelude.{Ok, Err, not, ◌≡◌, ℕ, ◌≤◌, length}
 use mathlib.Core.List.{List, [], ◌∷◌, ◌++◌, map, flat_map}
 use Prim.Native.Char.{code}
 use Rattle.rules.specs.Lists.{count, written}
 use Rattle.rules.specs.Bytes.{bytes, decimal}
+use Rattle.rules.specs.Codes.{refusal_code}
 use Rattle.rules.specs.Scene.{Component, Connection, Scene, ComponentLists, ConnectionLists, component_lists, connection_lists, id_of, delay_at, edges}
 use Rattle.rules.specs.Graph.{Edge}
 use Rattle.rules.specs.Labels.{Label, unsettled, between, label}
 use Rattle.rules.specs.Reasons.{Reason, unequal_reconvergent_delay, feedback_loop, stateful_or_mechanical_device, locked_repeater, reasons, feedback, scope, pattern}
 use Rattle.rules.specs.Projection.{ProjectedEdge, compressed, projected}
-use Rattle.rules.specs.Refusals.{SceneLimits, scene_limits, check_scene}
+use Rattle.rules.specs.Refusals.{Checked, SceneLimits, scene_limits, check_scene}
 use Rattle.rules.specs.Text.{Reading, broken, read, field_line, read_scene}
-use Rattle.rules.specs.declared.answers.Checked.{Checked}
-use Rattle.rules.specs.declared.answers.Checked.TheVariants.{Accepted, Refused}
+use Rattle.rules.specs.declared.answers.Refusal.{Refusal}
+use Rattle.rules.specs.declared.answers.RefusalKind.TheVariants.{TextNotInForm}
 use Rattle.rules.specs.declared.answers.TemporalScope.{TemporalScope}
 use Rattle.rules.specs.declared.answers.TemporalScope.TheVariants.{SteadyStateSafe, TimingSensitive, TemporalRequired}
 use Rattle.rules.specs.declared.answers.BehaviorPattern.{BehaviorPattern}
@@ -76,8 +77,8 @@ report cs es =
     ++ (field_line (bytes "pattern=") (pattern_text (feedback cs es) (pattern cs es)) ++ flat_map (label_lines (label es (delay_at cs) (delay_at cs))) (map id_of cs))))))))
 
 -- "A refusal prints two lines only, `refusal=` and `place=`, each with its number."
-unfoldable pub refusal_text : ℕ → ℕ → List ℕ
-refusal_text number place = number_line (bytes "refusal=") number ++ number_line (bytes "place=") place
+unfoldable pub refusal_text : Refusal → List ℕ
+refusal_text r = number_line (bytes "refusal=") (refusal_code r.kind) ++ number_line (bytes "place=") r.place
 
 -- the lists that have the fields of these components and connections
 abbrev pub component_fields : List Component → ComponentLists
@@ -92,12 +93,12 @@ unfoldable pub check_read : SceneLimits → Scene → Checked
 check_read limits s = check_scene limits (component_fields s.components) (connection_fields s.connections) []
 
 abbrev pub report_checked : Checked → Scene → List ℕ
-report_checked Accepted s = report s.components (edges s)
-report_checked (Refused number place) s = refusal_text number place
+report_checked (Ok u) s = report s.components (edges s)
+report_checked (Err r) s = refusal_text r
 
 -- "14 is tested before the scene's checks."
 abbrev pub report_read : Reading Scene → List ℕ
-report_read (broken line) = refusal_text 14 line
+report_read (broken line) = refusal_text (record { kind = TextNotInForm; place = line })
 report_read (read s p) = report_checked (check_read scene_limits s) s
 
 -- "`report` reads standard input": what it prints for a text

@@ -1,7 +1,6 @@
 -- The text of a scene: how it is read, and how it is written. Assumes nothing: these are definitions.
-use Rattle.std.specs.Prelude.{Bool, true, false, cond, ◌&&◌, ℕ, zero, suc, ◌≤◌, eqb, ltb, ℤ, pos, negsuc, length, drop}
+use Rattle.std.specs.Prelude.{Option, Some, None, Bool, true, false, cond, ◌&&◌, ℕ, zero, suc, ◌≤◌, eqb, ltb, ℤ, pos, negsuc, length, drop}
 use mathlib.Core.List.{List, [], ◌∷◌, ◌++◌, flat_map, Memᴰ}
-use Rattle.std.proofs.Math.Option.{Option, none, some}
 use Prim.Native.Char.{code}
 use Rattle.rules.specs.Lists.{not_empty, any}
 use Rattle.rules.specs.Bytes.{bytes, largest64, number_up_to, signed_number, decimal, signed_decimal}
@@ -58,8 +57,8 @@ module _ {A B : Type 0} where
 module _ {A : Type 0} where
   -- a line whose value is in its form, or not
   abbrev pub field_of : Option A → Place → Reading A
-  field_of none p = broken p.line
-  field_of (some x) p = read x (place (suc p.line) (after_line p.rest))
+  field_of None p = broken p.line
+  field_of (Some x) p = read x (place (suc p.line) (after_line p.rest))
 
   -- a field: a line with the field's name and its value. "14 gives the first line that breaks the form, a last line without its line feed
   -- included; where lines are missing, the number past the last": where no line feed is left, the line breaks the form or is missing
@@ -92,7 +91,7 @@ is_none bs = starts_with (bytes "none") bs && eqb (length bs) 4
 
 -- the delay word 256 stands for it
 unfoldable pub delay_word : List ℕ → Option ℕ
-delay_word bs = cond (is_none bs) (some 256) (byte bs)
+delay_word bs = cond (is_none bs) (Some 256) (byte bs)
 
 -- a count, and as many rows
 module _ {A : Type 0} where

@@ -1,7 +1,7 @@
 -- Contracts, verdicts, rationale codes and tallies. Assumes nothing: these are definitions.
-use Rattle.std.specs.Prelude.{Bool, cond, ◌&&◌, List, [], ◌∷◌, map, ◌≡◌, ℕ, ◌+◌, eqb, leb, length, get_or}
+use Rattle.std.specs.Prelude.{Option, Some, None, Bool, cond, ◌&&◌, List, [], ◌∷◌, map, ◌≡◌, ℕ, eqb, leb, length, get_or}
 use Rattle.rules.specs.Lists.{keep, count, indices}
-use Rattle.rules.specs.Codes.{polarity_code, polarity_of, unit_code, unit_of, verdict_code}
+use Rattle.rules.specs.Codes.{polarity_code, polarity_of, unit_code, unit_of, verdict_code, rationale_code}
 use Rattle.rules.specs.Pulses.{Event, is_powered, Pulse, pulses}
 use Rattle.rules.specs.declared.transient.PulsePolarity.{PulsePolarity}
 use Rattle.rules.specs.declared.transient.TraceTimeUnit.{TraceTimeUnit}
@@ -9,8 +9,8 @@ use Rattle.rules.specs.declared.transient.TransientVerdict.{TransientVerdict}
 use Rattle.rules.specs.declared.transient.TransientVerdict.TheVariants as Verdict
 use Rattle.rules.specs.declared.transient.SignalIntent.{SignalIntent}
 use Rattle.rules.specs.declared.transient.SignalIntent.TheVariants as Intent
-use Rattle.rules.specs.declared.transient.DesignIntent.{DesignIntent}
-use Rattle.rules.specs.declared.transient.DesignIntent.TheVariants.{NotRegistered, Registered}
+use Rattle.rules.specs.declared.transient.Rationale.{Rationale}
+use Rattle.rules.specs.declared.transient.Rationale.TheVariants as Why
 use Rattle.rules.specs.declared.transient.Judgement.{Judgement}
 
 -- "A contract has component id, intent, powered (0, 1), polarity, unit, and smallest and largest width (64 bits)."
@@ -75,8 +75,8 @@ abbrev pub for_component : ℕ → Contract → Bool
 for_component v c = eqb c.component v
 
 -- the intent that is registered for a component
-unfoldable pub design_intent : List Contract → ℕ → DesignIntent
-design_intent cs v = get_or (map (λ c. Registered (intent_of c)) (keep (for_component v) cs)) 0 NotRegistered
+unfoldable pub design_intent : List Contract → ℕ → Option SignalIntent
+design_intent cs v = get_or (map (λ c. Some (intent_of c)) (keep (for_component v) cs)) 0 None
 
 abbrev pub same_polarity : PulsePolarity → PulsePolarity → Bool
 same_polarity a b = eqb (polarity_code a) (polarity_code b)
@@ -84,24 +84,24 @@ same_polarity a b = eqb (polarity_code a) (polarity_code b)
 abbrev pub same_unit : TraceTimeUnit → TraceTimeUnit → Bool
 same_unit a b = eqb (unit_code a) (unit_code b)
 
-abbrev pub judged : TransientVerdict → ℕ → Judgement
+abbrev pub judged : TransientVerdict → Rationale → Judgement
 judged verdict rationale = record { verdict = verdict; rationale = rationale }
 
 -- "Verdicts: no contract HazardCandidate; 0 TransientDeviation; 1 HazardConfirmed; 2 IntentionalPulse if polarity, unit and inclusive width fit,
 -- else HazardConfirmed; 3 PulseObserved if polarity and unit fit and width is at most the maximum, else HazardConfirmed."
 -- "The ten rationale texts become codes 0 to 9 in `classify`'s order, Stable's four by wanted level (0 first), then polarity."
-unfoldable pub classify : Pulse → DesignIntent → Judgement
-classify p NotRegistered = judged Verdict.HazardCandidate 0
-classify p (Registered Intent.SteadyStateOnly) = judged Verdict.TransientDeviation 1
-classify p (Registered (Intent.Stable wanted)) = judged Verdict.HazardConfirmed (2 + (cond wanted 2 0 + polarity_code p.polarity))
-classify p (Registered (Intent.IntentionalPulse polarity unit smallest largest)) =
+unfoldable pub classify : Pulse → Option SignalIntent → Judgement
+classify p None = judged Verdict.HazardCandidate Why.NoIntent
+classify p (Some Intent.SteadyStateOnly) = judged Verdict.TransientDeviation Why.SteadyStateOnly
+classify p (Some (Intent.Stable wanted)) = judged Verdict.HazardConfirmed (Why.Stable wanted p.polarity)
+classify p (Some (Intent.IntentionalPulse polarity unit smallest largest)) =
     cond (same_polarity polarity p.polarity && (same_unit unit p.unit && (leb smallest p.width && leb p.width largest)))
-    (judged Verdict.IntentionalPulse 6)
-    (judged Verdict.HazardConfirmed 7)
-classify p (Registered (Intent.MaximumPulseWidth polarity unit largest)) =
+    (judged Verdict.IntentionalPulse Why.PulseFits)
+    (judged Verdict.HazardConfirmed Why.PulseDiffers)
+classify p (Some (Intent.MaximumPulseWidth polarity unit largest)) =
     cond (same_polarity polarity p.polarity && (same_unit unit p.unit && leb p.width largest))
-    (judged Verdict.PulseObserved 8)
-    (judged Verdict.HazardConfirmed 9)
+    (judged Verdict.PulseObserved Why.WithinTolerance)
+    (judged Verdict.HazardConfirmed Why.PastTolerance)
 
 -- a pulse and what is judged of it; an entry of list 9
 pub record Finding : Type 0 where
@@ -150,7 +150,7 @@ abbrev pub finding_verdict : Finding → ℕ
 finding_verdict f = verdict_code f.judgement.verdict
 
 abbrev pub finding_rationale : Finding → ℕ
-finding_rationale f = f.judgement.rationale
+finding_rationale f = rationale_code f.judgement.rationale
 
 -- the number lists of list 9, one for each field
 pub record FindingLists : Type 0 where

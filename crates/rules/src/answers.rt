@@ -1,28 +1,66 @@
 // What the checks and the scene calls answer.
+ghost use Rattle.rules.specs.Codes.{scope_code, pattern_code, refusal_code};
+ghost use Rattle.std.specs.Prelude.{◌≡◌};
 
-// What the checks find: nothing to refuse, or the number of a refusal and its place.
-#[derive(Clone, Copy)]
-pub enum Checked {
-    Accepted,
-    Refused { number: u32, place: u64 },
+// The conditions of the table of refusals, numbered as they are there.
+#[derive(Clone, Copy, PartialEq, Eq, Debug)]
+pub enum RefusalKind {
+    TooManyComponents = 1,
+    TooManyConnections = 2,
+    IdUsedEarlier = 3,
+    ComponentOutOfRange = 4,
+    TransferOutOfRange = 5,
+    EndMissing = 6,
+    ListTooShort = 7,
+    LengthsDiffer = 8,
+    TooManyEvents = 9,
+    TooManyContracts = 10,
+    TraceOutOfRange = 11,
+    ContractsNotRising = 12,
+    RecordFull = 13,
+    TextNotInForm = 14,
+    RecordFalse = 15,
+}
+
+impl From<RefusalKind> for u32 {
+    ghost from_gives = { λ kind number. number ≡ refusal_code kind };
+
+    fn from(kind: RefusalKind) -> u32 {
+        kind as u32
+    }
+}
+
+// Why a call is refused, and the place that the table gives.
+#[derive(Clone, Copy, PartialEq, Eq, Debug)]
+pub struct Refusal {
+    pub kind: RefusalKind,
+    pub place: u64,
 }
 
 // How many entries of list 4 are used, and how many Feedback reasons there are: one, or none.
-#[derive(Clone, Copy)]
-pub enum FeedbackAnswer {
-    Refused { number: u32, place: u64 },
-    Listed { feedback: u64, reasons: u64 },
+#[derive(Clone, Copy, PartialEq, Eq, Debug)]
+pub struct FeedbackListed {
+    pub feedback: u64,
+    pub reasons: u64,
 }
 
-#[derive(Clone, Copy)]
+#[derive(Clone, Copy, PartialEq, Eq, Debug)]
 pub enum TemporalScope {
     SteadyStateSafe,
     TimingSensitive,
     TemporalRequired,
 }
 
+impl From<TemporalScope> for u8 {
+    ghost from_gives = { λ scope code. code ≡ scope_code scope };
+
+    fn from(scope: TemporalScope) -> u8 {
+        scope as u8
+    }
+}
+
 // The components of a candidate's loop are those of list 4.
-#[derive(Clone, Copy)]
+#[derive(Clone, Copy, PartialEq, Eq, Debug)]
 pub enum BehaviorPattern {
     DelayedPath,
     ClockCandidate,
@@ -30,23 +68,25 @@ pub enum BehaviorPattern {
     Nothing,
 }
 
+impl From<BehaviorPattern> for u8 {
+    ghost from_gives = { λ pattern code. code ≡ pattern_code pattern };
+
+    fn from(pattern: BehaviorPattern) -> u8 {
+        pattern as u8
+    }
+}
+
 // How many entries of lists 0, 1 and 2 are used.
-#[derive(Clone, Copy)]
-pub enum Description {
-    Refused {
-        number: u32,
-        place: u64,
-    },
-    Described {
-        timed_edges: u64,
-        devices: u64,
-        evidence: u64,
-    },
+#[derive(Clone, Copy, PartialEq, Eq, Debug)]
+pub struct Description {
+    pub timed_edges: u64,
+    pub devices: u64,
+    pub evidence: u64,
 }
 
 // How many entries of lists 3, 4, 6 and 7 are used, and of list 5 how many are 1 and 0; list 8 is used for
 // every component.
-#[derive(Clone, Copy)]
+#[derive(Clone, Copy, PartialEq, Eq, Debug)]
 pub struct Assessment {
     pub scope: TemporalScope,
     pub pattern: BehaviorPattern,
@@ -57,10 +97,4 @@ pub struct Assessment {
     pub compressed: u64,
     pub projected: u64,
     pub path_ids: u64,
-}
-
-#[derive(Clone, Copy)]
-pub enum SceneAnswer {
-    Refused { number: u32, place: u64 },
-    Assessed(Assessment),
 }

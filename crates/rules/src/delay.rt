@@ -2,7 +2,7 @@
 ghost use Rattle.std.specs.Prelude.{◌≡◌};
 ghost use Rattle.rules.specs.Delay.{saturating_add, add_range, zero_range};
 
-#[derive(Clone, Copy)]
+#[derive(Clone, Copy, PartialEq, Eq, Debug)]
 pub struct DelayRange {
     pub minimum_redstone_ticks: u32,
     pub maximum_redstone_ticks: u32,
@@ -13,11 +13,7 @@ pub struct DelayRange {
 pub fn saturating_add(a: u32, b: u32) -> u32
     ensures { result ≡ saturating_add a b }
 {
-    if b <= 4294967295 - a {
-        a + b
-    } else {
-        4294967295
-    }
+    a.saturating_add(b)
 }
 
 impl DelayRange {

@@ -5,6 +5,6 @@
 pub mod delay; // delay.rt: DelayRange with its zero and its addition
 pub mod kinds; // kinds.rt: what a row of the kind table says
 pub mod limits; // limits.rt: the sizes that scenes, traces and records may have
-pub mod positions; // positions.rt: what a search answers
+pub mod lent; // lent.rt: the lists that calls are lent
 pub mod answers; // answers.rt: what the checks and the scene calls answer
 pub mod transient; // transient.rt: pulses, intents and verdicts

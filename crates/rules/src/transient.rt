@@ -1,18 +1,67 @@
 // Pulses and verdicts.
+ghost use Rattle.std.specs.Prelude.{◌≡◌};
+ghost use Rattle.rules.specs.Codes.{polarity_code, unit_code, verdict_code, rationale_code};
+ghost use Rattle.rules.specs.Decoded.{ReadsPolarity, ReadsUnit};
 
-#[derive(Clone, Copy)]
+use crate::kinds::UnknownCode;
+
+#[derive(Clone, Copy, PartialEq, Eq, Debug)]
 pub enum PulsePolarity {
     High,
     Low,
 }
 
-#[derive(Clone, Copy)]
+impl From<PulsePolarity> for u8 {
+    ghost from_gives = { λ polarity code. code ≡ polarity_code polarity };
+
+    fn from(polarity: PulsePolarity) -> u8 {
+        polarity as u8
+    }
+}
+
+impl TryFrom<u8> for PulsePolarity {
+    type Error = UnknownCode;
+
+    ghost try_from_gives = { ReadsPolarity };
+
+    fn try_from(code: u8) -> Result<Self, UnknownCode> {
+        match code {
+            0 => Ok(PulsePolarity::High),
+            1 => Ok(PulsePolarity::Low),
+            _ => Err(UnknownCode),
+        }
+    }
+}
+
+#[derive(Clone, Copy, PartialEq, Eq, Debug)]
 pub enum TraceTimeUnit {
     RedstoneTick,
     GameTick,
 }
 
-#[derive(Clone, Copy)]
+impl From<TraceTimeUnit> for u8 {
+    ghost from_gives = { λ unit code. code ≡ unit_code unit };
+
+    fn from(unit: TraceTimeUnit) -> u8 {
+        unit as u8
+    }
+}
+
+impl TryFrom<u8> for TraceTimeUnit {
+    type Error = UnknownCode;
+
+    ghost try_from_gives = { ReadsUnit };
+
+    fn try_from(code: u8) -> Result<Self, UnknownCode> {
+        match code {
+            0 => Ok(TraceTimeUnit::RedstoneTick),
+            1 => Ok(TraceTimeUnit::GameTick),
+            _ => Err(UnknownCode),
+        }
+    }
+}
+
+#[derive(Clone, Copy, PartialEq, Eq, Debug)]
 pub enum TransientVerdict {
     PulseObserved,
     TransientDeviation,
@@ -21,8 +70,16 @@ pub enum TransientVerdict {
     IntentionalPulse,
 }
 
+impl From<TransientVerdict> for u8 {
+    ghost from_gives = { λ verdict code. code ≡ verdict_code verdict };
+
+    fn from(verdict: TransientVerdict) -> u8 {
+        verdict as u8
+    }
+}
+
 // What a contract says of a signal.
-#[derive(Clone, Copy)]
+#[derive(Clone, Copy, PartialEq, Eq, Debug)]
 pub enum SignalIntent {
     SteadyStateOnly,
     Stable {
@@ -41,36 +98,49 @@ pub enum SignalIntent {
     },
 }
 
-// The intent of a component's contract, if it has one.
-#[derive(Clone, Copy)]
-pub enum DesignIntent {
-    NotRegistered,
-    Registered(SignalIntent),
+// Why a verdict is given: each stands for one of the ten texts, Stable for four by the wanted level and the polarity.
+#[derive(Clone, Copy, PartialEq, Eq, Debug)]
+pub enum Rationale {
+    NoIntent,
+    SteadyStateOnly,
+    Stable {
+        wanted: bool,
+        polarity: PulsePolarity,
+    },
+    PulseFits,
+    PulseDiffers,
+    WithinTolerance,
+    PastTolerance,
 }
 
-// A verdict with the code of its rationale.
-#[derive(Clone, Copy)]
+impl From<Rationale> for u8 {
+    ghost from_gives = { λ rationale code. code ≡ rationale_code rationale };
+
+    fn from(rationale: Rationale) -> u8 {
+        match rationale {
+            Rationale::NoIntent => 0,
+            Rationale::SteadyStateOnly => 1,
+            Rationale::Stable { wanted, polarity } => {
+                2 + 2 * u8::from(wanted) + u8::from(polarity)
+            }
+            Rationale::PulseFits => 6,
+            Rationale::PulseDiffers => 7,
+            Rationale::WithinTolerance => 8,
+            Rationale::PastTolerance => 9,
+        }
+    }
+}
+
+#[derive(Clone, Copy, PartialEq, Eq, Debug)]
 pub struct Judgement {
     pub verdict: TransientVerdict,
-    pub rationale: u8,
+    pub rationale: Rationale,
 }
 
-// How many findings were written, and how many contracts were given.
-#[derive(Clone, Copy)]
-pub enum TransientAnswer {
-    Refused {
-        number: u32,
-        place: u64,
-    },
-    Assessed {
-        findings: u64,
-        contracts_applied: u64,
-    },
-}
-
-// The answer with the tallies of this trace; all are 0 under a refusal.
-#[derive(Clone, Copy)]
+// How many findings were written, how many contracts were given, and the tally of each verdict by its number.
+#[derive(Clone, Copy, PartialEq, Eq, Debug)]
 pub struct TransientAssessment {
-    pub answer: TransientAnswer,
+    pub findings: u64,
+    pub contracts_applied: u64,
     pub tallies: [u64; 5],
 }

@@ -1,27 +1,24 @@
 -- Going along the ids of one bucket. Assumes nothing.
 use mathlib.Core.Bool.{Bool, true, false, cond}
 use mathlib.Core.List.Memᴰ
-use mathlib.Core.List.{List, [], ◌∷◌, ◌++◌, map, Memᴰ}
+use mathlib.Core.List.{List, [], ◌∷◌, map, Memᴰ}
 use mathlib.Core.Path.{◌≡◌, refl, sym, ap, subst, ◌∙◌}
 use mathlib.Core.Logic.{⊎_elim}
 use Prim.Native.Nat.{ℕ, zero, suc, ◌<◌, ◌≤◌}
 use native.Mathlib.Omega.{arith}
 use lib.Dec.{eqb, ltb}
-use lib.ListN.{length, get_or, take, length-map}
-use lib.Seq.{take_at, length-take-le}
+use lib.ListN.{length, get_or, length-map}
 use borrow.Author.Tests.{ltb-true, eq-eqb}
-use Rattle.rules.specs.Lists.{written}
-use Rattle.rules.specs.Ordered.{key_at, ordered, position_of}
-use Rattle.rules.specs.declared.positions.Found.TheVariants.{At, Missing}
+use Rattle.std.specs.Prelude.{Some, None}
+use Rattle.rules.specs.Ordered.{key_at, position_of}
 use Rattle.rules.proofs.Lists.{keep-in, eq_test}
 use Rattle.rules.proofs.Indices.{below-indices, map_at}
 use Rattle.rules.proofs.Ordering.{first→position, none→missing}
-use Rattle.rules.proofs.Written.{written-front}
-use Rattle.graph.specs.Adjacency.{Below, follow, chain, leaving, Rises}
+use Rattle.graph.specs.Adjacency.{Below, Indexed, follow, chain, leaving, Rises}
 use Rattle.graph.proofs.Chains.{chain-step, chain-end}
 use Rattle.graph.specs.Fits.{ends_below, index_fits, EdgesIndexed}
 use Rattle.graph.proofs.Fitting.{ends-all}
-use Rattle.scene.specs.Buckets.{bucket_count, bucket_of, IdIndex, Ahead}
+use Rattle.scene.specs.Buckets.{bucket_count, bucket_of, IdIndex, Ahead, BucketRoom}
 
 -- a chain rises, so it has nothing before its first
 follow-from : (next : List ℕ) → Rises next → (f e q : ℕ) → Memᴰ q (follow f next e) → e ≤ q
@@ -50,7 +47,7 @@ module _ (ids order head next : List ℕ) (i : IdIndex ids order head next) (id 
       ⊎_elim (λ s. absurd (n (ap (key_at ids) (sym s) ∙ q))) (λ r. r)
       (Memᴰ.cases_cons (subst (Memᴰ p) (chain-step next i.linked.rises e h) (a p k q)))
 
-  pub found_here : (e : ℕ) → e < length next → key_at ids e ≡ id → Ahead ids next id e → At e ≡ position_of ids id
+  pub found_here : (e : ℕ) → e < length next → key_at ids e ≡ id → Ahead ids next id e → Some e ≡ position_of ids id
   unfolding chain
   found_here e h q a = sym (first→position ids id e (record {
     inside = omega (arith, links);
@@ -58,35 +55,16 @@ module _ (ids order head next : List ℕ) (i : IdIndex ids order head next) (id 
     none_earlier = λ p b r. omega (arith, follow-from next i.linked.rises _ e p (a p (omega (arith, links)) r));
   }))
 
-  pub found_nowhere : (e : ℕ) → length next ≤ e → Ahead ids next id e → Missing ≡ position_of ids id
+  pub found_nowhere : (e : ℕ) → length next ≤ e → Ahead ids next id e → None ≡ position_of ids id
   found_nowhere e h a = sym (none→missing ids id (λ p b q. Memᴰ.not-nil (subst (Memᴰ p) (chain-end next e h) (a p b q))))
 
 -- linking the ids by their buckets
-module _ (ids old buckets : List ℕ) (filled : buckets ≡ written old (map bucket_of ids)) where
-  pub buckets-front : take (length ids) buckets ≡ map bucket_of ids
-  buckets-front = ap (take (length ids)) filled ∙ written-front old (map bucket_of ids) (length ids) (length-map ids bucket_of)
+below : (ids : List ℕ) → Below bucket_count (map bucket_of ids)
+below ids k h = let e = map_at bucket_of ids k 0 0 (omega (arith, length-map ids bucket_of)) in omega (arith, e)
 
-  pub buckets-length : length ids ≡ length (take (length ids) buckets)
-  buckets-length = sym (length-map ids bucket_of) ∙ ap length (sym buckets-front)
-
-  below : Below bucket_count (map bucket_of ids)
-  below k h = let e = map_at bucket_of ids k 0 0 (omega (arith, length-map ids bucket_of)) in omega (arith, e)
-
-  pub ids-indexed : (order head next head' next' rest : List ℕ) (r : Bool) → order ≡ ordered ids → length head ≡ bucket_count → length ids ≤ length next → length head' ≡ length head → length next' ≡ length (take (length ids) next)
-      → EdgesIndexed (take (length ids) buckets) head (take (length ids) next) head' next' r → IdIndex ids order head' (take (length ids) (next' ++ rest))
-  unfolding index_fits
-  ids-indexed order head next head' next' rest r sorted heads room kept links e =
-      let size : length (take (length ids) next) ≡ length ids = length-take-le (length ids) next room in
-      let same : length (take (length ids) next) ≡ length (take (length ids) buckets) = size ∙ buckets-length in
-      let low : true ≡ ends_below (length head) (take (length ids) buckets) = rw (buckets-front, heads) (ends-all bucket_count (map bucket_of ids) below) in
-      let yes : r ≡ true = e.answer ∙ simp (eq-eqb _ _ same) (sym low) in
-      record {
-        sorted = sorted;
-        heads = kept ∙ heads;
-        linked = rw (take_at next' rest (length ids) (links ∙ size), ← buckets-front) (e.indexed yes);
-      }
-
-pub links-length : (n : ℕ) (next next' rest : List ℕ) → n ≤ length next → length next' ≡ length (take n next) → n ≡ length (take n (next' ++ rest))
-links-length n next next' rest room e =
-    let size : length next' ≡ n = e ∙ length-take-le n next room in
-    sym (ap length (take_at next' rest n size) ∙ size)
+pub ids-linked : (ids head next head' next' : List ℕ) (r : Bool) → BucketRoom ids head next → EdgesIndexed (map bucket_of ids) head next head' next' r → Indexed (map bucket_of ids) head' next'
+unfolding index_fits
+ids-linked ids head next head' next' r room e =
+    let same : length next ≡ length (map bucket_of ids) = room.next_room ∙ sym (length-map ids bucket_of) in
+    let low : true ≡ ends_below (length head) (map bucket_of ids) = rw room.heads (ends-all bucket_count (map bucket_of ids) (below ids)) in
+    e.indexed (e.answer ∙ simp (eq-eqb _ _ same) (sym low))

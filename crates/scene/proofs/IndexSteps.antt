@@ -1,25 +1,28 @@
 -- A scene tested and indexed, step by step. Assumes nothing.
 use mathlib.Core.Bool.{Bool}
 use mathlib.Core.List.Memᴰ
-use mathlib.Core.List.{List, [], ◌++◌}
-use mathlib.Core.Path.{◌≡◌, refl, sym, ap, ap₂, subst, fun_ext, ◌∙◌}
+use mathlib.Core.List.{List}
+use mathlib.Core.Path.{◌≡◌, refl, sym, ap, subst, fun_ext, ◌∙◌}
 use Prim.Native.Nat.{ℕ, ◌≤◌}
 use lib.Dec.{T, leb, le→leb}
 use lib.ListN.{length, take}
+use Rattle.std.specs.Prelude.{Result, Ok, Err, IfOk}
 use Rattle.rules.specs.Lists.{written}
 use Rattle.rules.specs.Ordered.{ordered}
-use Rattle.rules.specs.Scene.{ComponentLists, component_lists, ConnectionLists, component_at}
-use Rattle.rules.specs.Refusals.{Test, Output, SceneLimits, scene_limits, first_refusal, out_of_range, component_tests, connection_tests, size_tests, scene_tests, check_scene, rows, refusal_number, refusal_place, CheckCall}
-use Rattle.rules.specs.declared.answers.Checked.{Checked}
-use Rattle.rules.specs.declared.answers.Checked.TheVariants.{Accepted, Refused}
+use Rattle.rules.specs.Graph.{edges_between}
+use Rattle.rules.specs.Positions.{Positioned}
+use Rattle.rules.specs.Scene.{ComponentLists, ConnectionLists, edges_of, connections_of}
+use Rattle.rules.specs.Refusals.{Output, SceneLimits, scene_limits, accepted, first_refusal, component_tests, connection_tests, size_tests, scene_tests, check_scene, rows}
+use Rattle.rules.specs.declared.answers.Refusal.{Refusal}
 use Rattle.rules.proofs.Lists.{and_both, chosen}
 use Rattle.rules.proofs.Ordering.{ordered-length}
 use Rattle.rules.proofs.Written.{written-front}
-use Rattle.rules.proofs.FirstRefusal.{skip, stay, not-both, at_most, none-holds}
+use Rattle.rules.proofs.FirstRefusal.{skip, stay, at_most, none-holds}
 use Rattle.rules.proofs.Acceptance.{aligned-components, aligned-connections}
 use Rattle.order.specs.Sorted.{sort_fits, SortedPositions}
+use Rattle.scene.specs.Lent.{PositionLists, position_lists}
 use Rattle.scene.specs.Ends.{ids_alone, EndsFound}
-use Rattle.scene.specs.Indexed.{Sized, RowsIndexed, Indexed}
+use Rattle.scene.specs.Indexed.{Sized, PositionsOf, Tested, rows_found}
 
 -- a sort with room for every position writes them all
 pub sorted_front : (keys order scratch order' scratch' : List ℕ) (r : Bool) → length keys ≤ length order → length keys ≤ length scratch → SortedPositions keys order scratch order' scratch' r
@@ -31,52 +34,40 @@ sorted_front keys order scratch order' scratch' r h k s =
     fits : T r
     fits = subst T (sym s.answer) (and_both (leb (length keys) (length order)) _ (le→leb (length keys) (length order) h) (le→leb (length keys) (length scratch) k))
 
-module _ (ids kinds delays locked : List ℕ) (m : ConnectionLists) (order starts stops : List ℕ) where
-  abbrev lists : ComponentLists
-  lists = component_lists ids kinds delays locked [] [] []
-
-  pub components-refused : (number place : ℕ) → Refused number place ≡ first_refusal (rows (component_tests lists) (length ids)) → RowsIndexed ids kinds delays locked m order starts stops (Refused number place) 0
-  components-refused number place e = record { answer = stay (rows (component_tests lists) (length ids)) _ e; accepted = λ a. absurd (not-both a refl) }
-
-  pub ends-indexed : (checked : Checked) (edges : ℕ) → Accepted ≡ first_refusal (rows (component_tests lists) (length ids)) → take (length ids) order ≡ ordered ids
-      → EndsFound ids m starts stops checked edges → RowsIndexed ids kinds delays locked m order starts stops checked edges
-  ends-indexed checked edges e s f = record {
-    answer = skip (rows (component_tests lists) (length ids)) _ e f.answer;
-    accepted = λ a. record { sorted = s; edges_few = f.few; positioned = f.positions a };
-  }
-
--- the tests of components look at neither coordinate
-same_tests : (l : ComponentLists) (i : ℕ) → component_tests l i ≡ component_tests (component_lists l.ids l.kinds l.delays l.locked [] [] []) i
-unfolding component_tests out_of_range component_at
-same_tests l i = refl
-
--- and those of connections at the ids alone
-same_ends : (l : ComponentLists) (m : ConnectionLists) (j : ℕ) → connection_tests l m j ≡ connection_tests (ids_alone l.ids) m j
+-- the tests of connections look at the ids alone
+same_row : (l : ComponentLists) (m : ConnectionLists) (j : ℕ) → connection_tests (ids_alone l.ids) m j ≡ connection_tests l m j
 unfolding connection_tests
-same_ends l m j = refl
+same_row l m j = refl
 
-module _ (limits : SceneLimits) (l : ComponentLists) (m : ConnectionLists) (outputs : List Output) where
-  row_tests : List Test
-  row_tests = rows (component_tests l) (length l.ids) ++ rows (connection_tests l m) (length m.sources)
+same-ends : (l : ComponentLists) (m : ConnectionLists) → rows (connection_tests (ids_alone l.ids) m) (length m.sources) ≡ rows (connection_tests l m) (length m.sources)
+same-ends l m = ap (λ g. rows g (length m.sources)) (fun_ext (same_row l m))
 
-  row-tests : row_tests ≡ rows (component_tests (component_lists l.ids l.kinds l.delays l.locked [] [] [])) (length l.ids) ++ rows (connection_tests (ids_alone l.ids) m) (length m.sources)
-  unfolding row_tests
-  row-tests = ap₂ (λ f g. rows f (length l.ids) ++ rows g (length m.sources)) (fun_ext (same_tests l)) (fun_ext (same_ends l m))
+module _ (l : ComponentLists) (m : ConnectionLists) where
+  pub components-refused : (p : PositionLists) (r : Refusal) → Err r ≡ first_refusal (rows (component_tests l) (length l.ids)) → Tested (rows_found l m) l.ids m p (Err r)
+  components-refused p r e = record { checked = stay (rows (component_tests l) (length l.ids)) _ e; accepted = tt }
 
-  pub sizes-refused : (order starts stops : List ℕ) (number place : ℕ) → Refused number place ≡ first_refusal (size_tests limits l m outputs) → Indexed limits l m outputs order starts stops (Refused number place) 0
-  unfolding check_scene scene_tests
-  sizes-refused order starts stops number place e = record { answer = stay (size_tests limits l m outputs) _ e; accepted = λ a. absurd (not-both a refl) }
-
-  pub rows-indexed : (order starts stops : List ℕ) (checked : Checked) (edges : ℕ) → Accepted ≡ first_refusal (size_tests limits l m outputs)
-      → RowsIndexed l.ids l.kinds l.delays l.locked m order starts stops checked edges → Indexed limits l m outputs order starts stops checked edges
-  unfolding check_scene scene_tests row_tests
-  rows-indexed order starts stops checked edges e r = record {
-    answer = skip (size_tests limits l m outputs) row_tests e (r.answer ∙ ap first_refusal (sym row-tests));
-    accepted = r.accepted;
+  pub ends-indexed : (order starts stops : List ℕ) (answer : Result ℕ Refusal) → accepted ≡ first_refusal (rows (component_tests l) (length l.ids)) → take (length l.ids) order ≡ ordered l.ids
+      → EndsFound l.ids m starts stops answer → Tested (rows_found l m) l.ids m (position_lists order starts stops) answer
+  ends-indexed order starts stops answer e s f = record {
+    checked = skip (rows (component_tests l) (length l.ids)) _ e (f.checked ∙ ap first_refusal (same-ends l m));
+    accepted = placed answer f.few f.positions;
   }
+    where
+      placed : (answer : Result ℕ Refusal) → IfOk answer (λ e. e ≤ length m.sources) → IfOk answer (λ e. Positioned l.ids (edges_of (connections_of m)) (edges_between (take e starts) (take e stops)))
+          → IfOk answer (PositionsOf l.ids m (position_lists order starts stops))
+      placed (Ok e) few positions = record { sorted = s; edges_few = few; positioned = positions }
+      placed (Err r) few positions = tt
 
-pub sized : (l : ComponentLists) (m : ConnectionLists) (outputs : List Output) → Accepted ≡ first_refusal (size_tests scene_limits l m outputs)
-    → Sized l.ids l.kinds l.delays l.locked m.sources m.sinks m.transfers
+module _ (limits : SceneLimits) (l : ComponentLists) (m : ConnectionLists) (outputs : List Output) (p : PositionLists) where
+  pub sizes-refused : (r : Refusal) → Err r ≡ first_refusal (size_tests limits l m outputs) → Tested (check_scene limits l m outputs) l.ids m p (Err r)
+  unfolding check_scene scene_tests
+  sizes-refused r e = record { checked = stay (size_tests limits l m outputs) _ e; accepted = tt }
+
+  pub rows-indexed : (answer : Result ℕ Refusal) → accepted ≡ first_refusal (size_tests limits l m outputs) → Tested (rows_found l m) l.ids m p answer → Tested (check_scene limits l m outputs) l.ids m p answer
+  unfolding check_scene scene_tests
+  rows-indexed answer e r = record { checked = skip (size_tests limits l m outputs) _ e r.checked; accepted = r.accepted }
+
+pub sized : (l : ComponentLists) (m : ConnectionLists) (outputs : List Output) → accepted ≡ first_refusal (size_tests scene_limits l m outputs) → Sized l m
 unfolding size_tests
 sized l m outputs e =
     let none = none-holds (size_tests scene_limits l m outputs) (sym e) in
@@ -91,7 +82,3 @@ sized l m outputs e =
       components_few = at_most scene_limits.components (length l.ids) (none _ (Memᴰ.tail (Memᴰ.tail (Memᴰ.head refl))));
       connections_few = at_most scene_limits.connections (length m.sources) (none _ (Memᴰ.tail (Memᴰ.tail (Memᴰ.tail (Memᴰ.head refl)))));
     }
-
--- an answer that is what the checks find has its number and place
-pub checked-as : (found answer : Checked) → answer ≡ found → CheckCall found answer
-checked-as found answer e = record { answered = e; numbered = ap refusal_number e; placed = ap refusal_place e }

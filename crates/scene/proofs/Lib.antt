@@ -3,9 +3,11 @@ pub mod Room
 pub mod SizeSteps
 pub mod Repeats
 pub mod ComponentSteps
+pub mod Named
 pub mod BucketSteps
 pub mod ConnectionSteps
 -- a scene that is accepted, and its Feedback:
 pub mod IndexSteps
 pub mod PositionSteps
 pub mod SceneFeedback
+pub mod WithRoom

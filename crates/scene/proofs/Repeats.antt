@@ -9,7 +9,7 @@ use lib.Dec.{T, eqb, eqb→eq}
 use lib.ListN.{length, get_or}
 use Rattle.rules.specs.Ordered.{key_at, ordered}
 use Rattle.rules.specs.Refusals.{used_earlier}
-use Rattle.rules.proofs.Lists.{chosen, not_chosen, eq_test}
+use Rattle.rules.proofs.Lists.{eq_test}
 use Rattle.rules.proofs.Sums.{order}
 use Rattle.rules.proofs.Ordering.{used→neighbour, neighbour→used}
 use Rattle.scene.specs.Steps.{FirstRepeat}
@@ -18,15 +18,6 @@ use Rattle.scene.specs.Steps.{FirstRepeat}
 module _ (a b q first : ℕ) where
   abbrev pub earlier : ℕ
   earlier = cond (eqb a b) (min q first) first
-
-  pub takes-later : a ≡ b → q < first → q ≡ earlier
-  takes-later e h = let m : q ≡ min q first = omega arith in m ∙ sym (chosen (min q first) first (eqb a b) (eq_test e))
-
-  pub keeps-first : a ≡ b → first ≤ q → first ≡ earlier
-  keeps-first e h = let m : first ≡ min q first = omega arith in m ∙ sym (chosen (min q first) first (eqb a b) (eq_test e))
-
-  pub keeps-other : (a ≡ b → ⊥) → first ≡ earlier
-  keeps-other f = sym (not_chosen (min q first) first (eqb a b) (λ t. f (eqb→eq a b t)))
 
 module _ (ids : List ℕ) where
   abbrev at : ℕ → ℕ

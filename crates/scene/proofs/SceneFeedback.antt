@@ -2,79 +2,90 @@
 use mathlib.Core.List.Memᴰ
 use mathlib.Core.List.{List, [], ◌∷◌}
 use mathlib.Core.Path.{◌≡◌, refl, sym, ap, ◌∙◌}
-use Prim.Native.Nat.{ℕ, ◌<◌, ◌≤◌}
+use Prim.Native.Nat.{ℕ, ◌≤◌}
 use native.Mathlib.Omega.{arith}
+use borrow.Author.Tests.{lt-ltb}
+use mir.Val.{bool_byte}
+use lib.Dec.{ltb}
 use lib.ListN.{length, take}
 use lib.Seq.{length-take-le}
+use Rattle.std.specs.Prelude.{Option, Some, Ok, Err}
 use Rattle.rules.specs.Lists.{written}
 use Rattle.rules.specs.Scene.{ComponentLists, ConnectionLists, components_of, connections_of, edges_of, scene_of}
 use Rattle.rules.specs.Reasons.{feedback, feedback_reason}
 use Rattle.rules.specs.Feedback.{feedback_numbers, check_feedback, feedback_answer, FeedbackCall}
-use Rattle.rules.specs.Refusals.{Output, scene_limits, after, check_scene, room_outputs}
-use Rattle.rules.specs.declared.answers.Checked.TheVariants.{Accepted, Refused}
-use Rattle.rules.specs.declared.answers.FeedbackAnswer.TheVariants as Answer
+use Rattle.rules.specs.Refusals.{Checked, scene_limits, after, check_scene, room_outputs}
+use Rattle.rules.specs.declared.answers.Refusal.{Refusal}
 use Rattle.rules.proofs.Acceptance.{AcceptedScene, accepted→}
-use Rattle.scene.specs.Indexed.{Positions}
+use Rattle.scene.specs.Lent.{PositionLists}
+use Rattle.scene.specs.Indexed.{IndexRoom, Tested}
 use Rattle.reasons.specs.FeedbackListed.{FeedbackIds}
 use Rattle.reasons.specs.Listing.{shared_ids, Linked}
-use Rattle.reasons.specs.declared.feedback.FeedbackListed.{FeedbackListed}
 use Rattle.reasons.proofs.ByIds.{shared-feedback}
 use Rattle.reasons.proofs.Fitting.{linked-fits}
 use Rattle.reasons.proofs.Promises.{fitting-ids}
 
 -- one reason where something is listed
-pub one-reason : (ids : List ℕ) → 0 < length ids → 1 ≡ length (feedback_reason ids)
+pub reasons-counted : (n : ℕ) (ids : List ℕ) → n ≡ length ids → bool_byte (ltb 0 n) ≡ length (feedback_reason ids)
 unfolding feedback_reason
-one-reason [] h = absurd (omega arith)
-one-reason (x ∷ ids) h = refl
+reasons-counted n [] e = rw e refl
+reasons-counted n (x ∷ ids) e = simp (lt-ltb 0 n (omega arith))
 
-pub no-reason : (ids : List ℕ) → length ids ≡ 0 → 0 ≡ length (feedback_reason ids)
-unfolding feedback_reason
-no-reason [] h = refl
-no-reason (x ∷ ids) h = absurd (omega arith)
+module _ (l : ComponentLists) (m : ConnectionLists) (old : List ℕ) (p : PositionLists) where
+  abbrev found : Checked
+  found = check_scene scene_limits l m (room_outputs (length l.ids) (length m.sources) 4 (length old ∷ []))
 
-module _ (l : ComponentLists) (m : ConnectionLists) (old order starts stops : List ℕ) (edge_count : ℕ) where
-  abbrev outputs : List Output
-  outputs = room_outputs (length l.ids) (length m.sources) 4 (length old ∷ [])
-
-  -- the edges of an accepted scene over positions
-  linked : scene_limits.connections ≤ length starts → scene_limits.connections ≤ length stops → AcceptedScene scene_limits l m outputs → Positions l.ids m order starts stops edge_count
-      → Linked (take edge_count starts) (take edge_count stops) (length l.ids)
-  linked h k a p = record {
-    pairs = length-take-le edge_count stops (omega (arith, p.edges_few, a.connections_few)) ∙ sym (length-take-le edge_count starts (omega (arith, p.edges_few, a.connections_few)));
-    nodes_few = a.components_few;
-    edges_few = omega (arith, p.edges_few, a.connections_few, length-take-le edge_count starts (omega (arith, p.edges_few, a.connections_few)));
-    inside = p.positioned.inside;
+  pub call-refused : (r : Refusal) → Tested found l.ids m p (Err r) → FeedbackCall scene_limits l m old old (Err r)
+  unfolding check_feedback
+  call-refused r t = record {
+    answered = ap (λ c. feedback_answer c (scene_of l m)) t.checked;
+    numbered = ap (λ c. feedback_numbers (feedback_answer c (scene_of l m))) t.checked;
+    content = ap (λ c. after c old (feedback (components_of l) (edges_of (connections_of m)))) t.checked;
   }
 
-  room : AcceptedScene scene_limits l m outputs → length l.ids ≤ length old
-  room a = a.outputs_long _ (Memᴰ.head refl) (length old) (Memᴰ.head refl)
+  module _ (room : IndexRoom p) (edges : ℕ) (t : Tested found l.ids m p (Ok edges)) where
+    scene : AcceptedScene scene_limits l m (room_outputs (length l.ids) (length m.sources) 4 (length old ∷ []))
+    scene = accepted→ scene_limits l m _ (sym t.checked)
 
-  pub call-refused : (number place : ℕ) → Refused number place ≡ check_scene scene_limits l m outputs → FeedbackCall scene_limits l m old old (Answer.Refused number place)
-  unfolding check_feedback
-  call-refused number place e = record { answered = ap (λ c. feedback_answer c (scene_of l m)) e; numbered = ap (λ c. feedback_numbers (feedback_answer c (scene_of l m))) e; content = ap (λ c. after c old (feedback (components_of l) (edges_of (connections_of m)))) e }
+    pub starts_fit : edges ≤ length p.starts
+    starts_fit = omega (arith, t.accepted.edges_few, scene.connections_few, room.starts_room)
 
-  pub call-listed : (new : List ℕ) (found : FeedbackListed) (reasons : ℕ) → scene_limits.connections ≤ length starts → scene_limits.connections ≤ length stops → Accepted ≡ check_scene scene_limits l m outputs
-      → Positions l.ids m order starts stops edge_count → FeedbackIds l.ids l.kinds (take edge_count starts) (take edge_count stops) old new found
-      → ((ids : List ℕ) → found.listed ≡ length ids → reasons ≡ length (feedback_reason ids)) → FeedbackCall scene_limits l m old new (Answer.Listed found.listed reasons)
-  unfolding check_feedback
-  call-listed new found reasons h k e p f r = record {
-    answered = told;
-    numbered = ap feedback_numbers told;
-    content = listed.0 ∙ ap (written old) same ∙ ap (λ c. after c old (feedback (components_of l) (edges_of (connections_of m)))) e;
-  }
-    where
-      scene : AcceptedScene scene_limits l m outputs
-      scene = accepted→ scene_limits l m outputs (sym e)
+    pub stops_fit : edges ≤ length p.stops
+    stops_fit = omega (arith, t.accepted.edges_few, scene.connections_few, room.stops_room)
 
-      listed : (new ≡ written old (shared_ids l.ids l.kinds (take edge_count starts) (take edge_count stops))) × (found.listed ≡ length (shared_ids l.ids l.kinds (take edge_count starts) (take edge_count stops)))
-      listed = fitting-ids f (linked-fits (take edge_count starts) (take edge_count stops) (length l.ids) (length l.kinds) (length old) (linked h k scene p) scene.components_aligned.kinds_length (room scene))
+    abbrev starts : List ℕ
+    starts = take edges p.starts
 
-      same : shared_ids l.ids l.kinds (take edge_count starts) (take edge_count stops) ≡ feedback (components_of l) (edges_of (connections_of m))
-      same = shared-feedback l scene.ids_distinct (edges_of (connections_of m)) (take edge_count starts) (take edge_count stops) p.positioned
+    abbrev stops : List ℕ
+    stops = take edges p.stops
 
-      counted : found.listed ≡ length (feedback (components_of l) (edges_of (connections_of m)))
-      counted = listed.1 ∙ ap length same
+    -- the edges of an accepted scene over positions
+    linked : Linked starts stops (length l.ids)
+    linked = record {
+      pairs = length-take-le edges p.stops stops_fit ∙ sym (length-take-le edges p.starts starts_fit);
+      nodes_few = scene.components_few;
+      edges_few = omega (arith, t.accepted.edges_few, scene.connections_few, length-take-le edges p.starts starts_fit);
+      inside = t.accepted.positioned.inside;
+    }
 
-      told : Answer.Listed found.listed reasons ≡ feedback_answer (check_scene scene_limits l m outputs) (scene_of l m)
-      told = cc (counted, r (feedback (components_of l) (edges_of (connections_of m))) counted) ∙ ap (λ c. feedback_answer c (scene_of l m)) e
+    module _ (new : List ℕ) (r : Option ℕ) (f : FeedbackIds l.ids l.kinds starts stops old new r) where
+      listed : (new ≡ written old (shared_ids l.ids l.kinds starts stops)) × (r ≡ Some (length (shared_ids l.ids l.kinds starts stops)))
+      listed = fitting-ids f (linked-fits starts stops (length l.ids) (length l.kinds) (length old) linked scene.components_aligned.kinds_length (scene.outputs_long _ (Memᴰ.head refl) (length old) (Memᴰ.head refl)))
+
+      same : shared_ids l.ids l.kinds starts stops ≡ feedback (components_of l) (edges_of (connections_of m))
+      same = shared-feedback l scene.ids_distinct (edges_of (connections_of m)) starts stops t.accepted.positioned
+
+      -- something is answered
+      pub told : r ≡ Some (length (feedback (components_of l) (edges_of (connections_of m))))
+      told = listed.1 ∙ ap (λ ids. Some (length ids)) same
+
+      pub call-listed : (count reasons : ℕ) → r ≡ Some count → ((ids : List ℕ) → count ≡ length ids → reasons ≡ length (feedback_reason ids)) → FeedbackCall scene_limits l m old new (Ok (record { feedback = count; reasons = reasons }))
+      unfolding check_feedback
+      call-listed count reasons e h =
+          let counted : count ≡ length (feedback (components_of l) (edges_of (connections_of m))) = let q = told in cc in
+          let answer = cc (counted, h (feedback (components_of l) (edges_of (connections_of m))) counted) ∙ ap (λ c. feedback_answer c (scene_of l m)) t.checked in
+          record {
+            answered = answer;
+            numbered = ap feedback_numbers answer;
+            content = listed.0 ∙ ap (written old) same ∙ ap (λ c. after c old (feedback (components_of l) (edges_of (connections_of m)))) t.checked;
+          }

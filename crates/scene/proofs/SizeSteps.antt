@@ -5,28 +5,27 @@ use Prim.Native.Nat.{◌<◌, ◌≤◌}
 use lib.Dec.{T, ltb, lt→ltb}
 use lib.ListN.{length}
 use Rattle.rules.specs.Scene.{ComponentLists, ConnectionLists}
-use Rattle.rules.specs.Refusals.{Output, SceneLimits, first_refusal, lengths_differ, component_lengths, connection_lengths, output_test, size_tests}
-use Rattle.rules.specs.declared.answers.Checked.{Checked}
-use Rattle.rules.specs.declared.answers.Checked.TheVariants.{Refused}
+use Rattle.rules.specs.Refusals.{Checked, refused, Output, SceneLimits, first_refusal, lengths_differ, component_lengths, connection_lengths, output_test, size_tests}
+use Rattle.rules.specs.declared.answers.RefusalKind.TheVariants.{TooManyComponents, TooManyConnections, LengthsDiffer}
 use Rattle.rules.proofs.FirstRefusal.{stop, more, within}
 
 module _ (limits : SceneLimits) (l : ComponentLists) (m : ConnectionLists) (outputs : List Output) where
-  pub components-differ : T (lengths_differ (component_lengths l)) → Refused 8 0 ≡ first_refusal (size_tests limits l m outputs)
+  pub components-differ : T (lengths_differ (component_lengths l)) → refused LengthsDiffer 0 ≡ first_refusal (size_tests limits l m outputs)
   unfolding size_tests
   components-differ t = stop (lengths_differ (component_lengths l)) _ t
 
   module _ (components : T (lengths_differ (component_lengths l)) → ⊥) where
-    pub connections-differ : T (lengths_differ (connection_lengths m)) → Refused 8 1 ≡ first_refusal (size_tests limits l m outputs)
+    pub connections-differ : T (lengths_differ (connection_lengths m)) → refused LengthsDiffer 1 ≡ first_refusal (size_tests limits l m outputs)
     unfolding size_tests
     connections-differ t = more _ _ components (stop (lengths_differ (connection_lengths m)) _ t)
 
     module _ (connections : T (lengths_differ (connection_lengths m)) → ⊥) where
-      pub many-components : limits.components < length l.ids → Refused 1 (length l.ids) ≡ first_refusal (size_tests limits l m outputs)
+      pub many-components : limits.components < length l.ids → refused TooManyComponents (length l.ids) ≡ first_refusal (size_tests limits l m outputs)
       unfolding size_tests
       many-components h = more _ _ components (more _ _ connections (stop (ltb limits.components (length l.ids)) _ (lt→ltb limits.components (length l.ids) h)))
 
       module _ (few : length l.ids ≤ limits.components) where
-        pub many-connections : limits.connections < length m.sources → Refused 2 (length m.sources) ≡ first_refusal (size_tests limits l m outputs)
+        pub many-connections : limits.connections < length m.sources → refused TooManyConnections (length m.sources) ≡ first_refusal (size_tests limits l m outputs)
         unfolding size_tests
         many-connections h =
             more _ _ components (more _ _ connections (more _ _ (within limits.components (length l.ids) few)

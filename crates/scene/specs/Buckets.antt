@@ -2,13 +2,14 @@
 use mathlib.Core.List.{List, map, Memᴰ}
 use Rattle.std.specs.Prelude.{◌≡◌, ℕ, ◌%◌, ◌<◌, ◌≤◌, length}
 use Rattle.rules.specs.Ordered.{key_at, ordered}
+use Rattle.rules.specs.Refusals.{scene_limits}
 use Rattle.graph.specs.Adjacency.{Indexed, chain}
 
 abbrev pub bucket_count : ℕ
 bucket_count = 1021
 
 abbrev pub bucket_of : ℕ → ℕ
-bucket_of id = id % 1021
+bucket_of id = id % bucket_count
 
 -- the ids in order, and linked by their buckets
 pub record IdIndex (ids order head next : List ℕ) : Type 0 where
@@ -20,8 +21,8 @@ pub record IdIndex (ids order head next : List ℕ) : Type 0 where
 abbrev pub Ahead : List ℕ → List ℕ → ℕ → ℕ → Type 0
 Ahead ids next id e = (p : ℕ) → p < length ids → key_at ids p ≡ id → Memᴰ p (chain next e)
 
--- room to link n ids
-pub record BucketRoom (n : ℕ) (buckets head next : List ℕ) : Type 0 where
-  pub buckets_room : n ≤ length buckets
+-- ids within the limits, and room to link them
+pub record BucketRoom (ids head next : List ℕ) : Type 0 where
+  pub nodes_few : length ids ≤ scene_limits.components
   pub heads : length head ≡ bucket_count
-  pub next_room : n ≤ length next
+  pub next_room : length next ≡ length ids

@@ -1,4 +1,6 @@
--- What the functions of the crate promise each other; what the calls promise is in the crate rules. The tests:
+-- What the functions of the crate promise each other; what the calls promise is in the crate rules. The lists lent:
+pub mod Lent
+-- the tests:
 pub mod Room
 pub mod Steps
 pub mod Ends

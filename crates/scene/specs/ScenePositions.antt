@@ -1,55 +1,51 @@
 -- What a caller gets who lends lists for the positions of a scene. Assumes nothing: these are definitions.
-use Rattle.std.specs.Prelude.{Bool, true, false, ◌&&◌, List, map, ◌≡◌, ℕ, ◌≤◌, leb, length}
+use Rattle.std.specs.Prelude.{Result, Ok, Err, IfOk, unwrap_or, Bool, true, false, ◌&&◌, List, map, ◌≡◌, ℕ, ◌≤◌, leb, length}
 use Rattle.rules.specs.Ordered.{ordered, position_of}
 use Rattle.rules.specs.Graph.{Edge, ◌⟶◌, source_of, sink_of}
 use Rattle.rules.specs.Scene.{ComponentLists, ConnectionLists, edges_of, connections_of}
-use Rattle.rules.specs.Refusals.{Output, SceneLimits, after, check_scene}
-use Rattle.rules.specs.declared.positions.Found.{Found}
-use Rattle.rules.specs.declared.positions.Found.TheVariants.{At, Missing}
-use Rattle.rules.specs.declared.answers.Checked.{Checked}
-use Rattle.rules.specs.declared.answers.Checked.TheVariants.{Accepted, Refused}
-use Rattle.scene.specs.Indexed.{Positions}
+use Rattle.rules.specs.Refusals.{Checked, Output, SceneLimits, after, answer_of, check_scene}
+use Rattle.rules.specs.declared.answers.Refusal.{Refusal}
+use Rattle.scene.specs.declared.positions.Unplaced.{Unplaced}
+use Rattle.scene.specs.declared.positions.Unplaced.TheVariants.{NoRoom, Refused}
+use Rattle.scene.specs.Lent.{PositionLists}
+use Rattle.scene.specs.Indexed.{PositionsOf}
 
 -- lists of these lengths have room for every scene within the limits
 unfoldable pub positions_fit : SceneLimits → (order starts stops : ℕ) → Bool
 positions_fit limits order starts stops = leb limits.components order && (leb limits.connections starts && leb limits.connections stops)
 
--- lists that have the positions of n components and of the ends of so many edges
-pub record FrontsFit (n edges : ℕ) (order starts stops : List ℕ) : Type 0 where
-  pub order_fits : n ≤ length order
-  pub starts_fit : edges ≤ length starts
-  pub stops_fit : edges ≤ length stops
+abbrev pub lists_fit : SceneLimits → PositionLists → Bool
+lists_fit limits p = positions_fit limits (length p.order) (length p.starts) (length p.stops)
 
--- the position that is found; 0 where there is none, which no end of an accepted scene's edges has: refusal 6
-abbrev pub found_at : Found → ℕ
-found_at (At i) = i
-found_at Missing = 0
+-- lists that have the positions of n components and of the ends of so many edges
+pub record FrontsFit (n edges : ℕ) (p : PositionLists) : Type 0 where
+  pub order_fits : n ≤ length p.order
+  pub starts_fit : edges ≤ length p.starts
+  pub stops_fit : edges ≤ length p.stops
+
+-- the position of an id; 0 where there is none, which no end of an accepted scene's edges has: refusal 6
+abbrev pub end_position : List ℕ → ℕ → ℕ
+end_position ids id = unwrap_or (position_of ids id) 0
 
 -- the edges, each between the positions of its ends
 unfoldable pub edge_positions : List ℕ → ConnectionLists → List Edge
-edge_positions ids m = map (λ e. found_at (position_of ids (source_of e)) ⟶ found_at (position_of ids (sink_of e))) (edges_of (connections_of m))
+edge_positions ids m = map (λ e. end_position ids (source_of e) ⟶ end_position ids (sink_of e)) (edges_of (connections_of m))
 
--- how many edges are told: none under a refusal
-abbrev pub edges_told : Checked → ℕ → ℕ
-edges_told Accepted edges = edges
-edges_told (Refused number place) edges = 0
+-- given what the checks find: the answer, with how many edges there are, and what each list holds. `positions` says what the lists of an
+-- accepted scene are good for
+pub record PositionsGiven (found : Checked) (ids : List ℕ) (m : ConnectionLists) (old new : PositionLists) (answer : Result ℕ Refusal) : Type 0 where
+  pub answered : answer ≡ answer_of found (length (edge_positions ids m))
+  pub order_written : new.order ≡ after found old.order (ordered ids)
+  pub starts_written : new.starts ≡ after found old.starts (map source_of (edge_positions ids m))
+  pub stops_written : new.stops ≡ after found old.stops (map sink_of (edge_positions ids m))
+  pub positions : IfOk answer (PositionsOf ids m new)
 
--- given what the checks find: the answer, and what each list holds. `positions` says what the lists of an accepted scene are good for
-pub record PositionsGiven (found : Checked) (ids : List ℕ) (m : ConnectionLists) (order starts stops order' starts' stops' : List ℕ) (checked : Checked) (edges : ℕ) : Type 0 where
-  pub answer : checked ≡ found
-  pub counted : edges ≡ edges_told found (length (edge_positions ids m))
-  pub order_written : order' ≡ after found order (ordered ids)
-  pub starts_written : starts' ≡ after found starts (map source_of (edge_positions ids m))
-  pub stops_written : stops' ≡ after found stops (map sink_of (edge_positions ids m))
-  pub positions : checked ≡ Accepted → Positions ids m order' starts' stops' edges
+-- the answer with room, as one of a caller whose lists may have none
+abbrev pub with_room : Result ℕ Refusal → Result ℕ Unplaced
+with_room (Ok edges) = Ok edges
+with_room (Err r) = Err (Refused r)
 
--- with room, the scene is tested and indexed; without, nothing is done, and the answer is a number that no refusal has
-pub record ScenePositioned (limits : SceneLimits) (l : ComponentLists) (m : ConnectionLists) (outputs : List Output) (order starts stops order' starts' stops' : List ℕ) (room : Bool) (checked : Checked) (edges : ℕ) : Type 0 where
-  pub answer : room ≡ positions_fit limits (length order) (length starts) (length stops)
-  pub indexed : room ≡ true → PositionsGiven (check_scene limits l m outputs) l.ids m order starts stops order' starts' stops' checked edges
-  pub untested : room ≡ false → (checked ≡ Refused 0 0) × (edges ≡ 0) × (order' ≡ order) × (starts' ≡ starts) × (stops' ≡ stops)
-
--- for a call that tests its own lists: what the checks find, and where they accept, the positions of the scene
-pub record Tested (found : Checked) (ids : List ℕ) (m : ConnectionLists) (order starts stops : List ℕ) (checked : Checked) (edges : ℕ) : Type 0 where
-  pub answer : checked ≡ found
-  pub accepted : checked ≡ Accepted → Positions ids m order starts stops edges
+-- with room, the scene is tested and indexed; without, nothing is done
+pub record ScenePositioned (limits : SceneLimits) (l : ComponentLists) (m : ConnectionLists) (outputs : List Output) (old new : PositionLists) (answer : Result ℕ Unplaced) : Type 0 where
+  pub indexed : lists_fit limits old ≡ true → (given : Result ℕ Refusal) × (answer ≡ with_room given) × PositionsGiven (check_scene limits l m outputs) l.ids m old new given
+  pub untested : lists_fit limits old ≡ false → (answer ≡ Err NoRoom) × (new ≡ old)

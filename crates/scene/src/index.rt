@@ -1,15 +1,18 @@
-// A scene is tested whole, and its ids and edges are indexed on the way.
+// A scene tested whole and indexed: its components by their ids, its edges by the positions of their ends.
 ghost use Rattle.std.specs.Prelude.{◌≡◌, ◌≤◌, length, take};
+ghost use Rattle.rules.specs.Lent.{components_lent, connections_lent};
 ghost use Rattle.rules.specs.Ordered.{ordered};
-ghost use Rattle.rules.specs.Scene.{component_lists, connection_lists};
-ghost use Rattle.rules.specs.Refusals.{scene_limits, room_outputs};
-ghost use Rattle.scene.specs.Indexed.{Sized, Indexed, RowsIndexed, IndexRoom};
+ghost use Rattle.rules.specs.Refusals.{check_scene, scene_limits};
+ghost use Rattle.scene.specs.Lent.{SamePositions, outputs_lent, position_lists, positions_lent};
+ghost use Rattle.scene.specs.Indexed.{IndexRoom, Sized, Tested, rows_found};
 
 use crate::components::{check_components, first_repeat};
-use crate::connections::{EdgePositions, look_up_ends};
+use crate::connections::look_up_ends;
+use crate::lent::Positions;
 use crate::sizes::check_sizes;
 use order::sort::sort_positions;
-use rules::answers::Checked;
+use rules::answers::Refusal;
+use rules::lent::Scene;
 use rules::limits::MAX_COMPONENTS;
 
 // Writes the ordered positions of the ids to the front of order.
@@ -22,76 +25,37 @@ fn order_ids(ids: &[u64], order: &mut [usize])
 }
 
 // Tests the components, then the connections, of lists whose lengths are tested. order gets the ordered positions
-// of the ids, starts and stops the positions of the edges' ends.
+// of the ids, starts and stops the positions of the edges' ends: three lists, since the first is read while the others
+// are written.
 fn index_rows(
-    ids: &[u64],
-    kinds: &[u8],
-    delays: &[u16],
-    locked: &[u8],
-    sources: &[u64],
-    sinks: &[u64],
-    transfers: &[u8],
+    scene: &Scene<'_>,
     order: &mut [usize],
     starts: &mut [usize],
     stops: &mut [usize],
-) -> EdgePositions
-    requires { Sized ids.now kinds.now delays.now locked.now sources.now sinks.now transfers.now × IndexRoom order.old starts.old stops.old }
-    ensures { RowsIndexed ids.now kinds.now delays.now locked.now (connection_lists sources.now sinks.now transfers.now) order.new starts.new stops.new result.checked result.edges }
+) -> Result<usize, Refusal>
+    requires { Sized (components_lent scene.now.components) (connections_lent scene.now.connections) × IndexRoom (position_lists order.old starts.old stops.old) }
+    ensures { Tested (rows_found (components_lent scene.now.components) (connections_lent scene.now.connections)) scene.now.components.ids.now (connections_lent scene.now.connections) (position_lists order.new starts.new stops.new) result }
 {
-    let n = ids.len();
+    let ids = scene.components.ids;
     order_ids(ids, order);
-    let repeat = first_repeat(ids, &order[..n]);
-    let components = check_components(ids, kinds, delays, locked, repeat);
-    match components {
-        Checked::Refused { number, place } => EdgePositions {
-            checked: components,
-            edges: 0,
-        },
-        Checked::Accepted => look_up_ends(
-            ids,
-            &order[..n],
-            sources,
-            sinks,
-            transfers,
-            starts,
-            stops,
-        ),
-    }
+    let order = &order[..ids.len()];
+    check_components(&scene.components, first_repeat(ids, order))?;
+    look_up_ends(ids, order, &scene.connections, starts, stops)
 }
 
 // Tests a scene in document 01's order, with the output lists from the list of number first on, of which room has
 // the shortest lengths. Where it is accepted, order has the ordered positions of the ids, and starts and stops have
-// the positions of the edges' ends.
+// the positions of the edges' ends; answers how many edges there are.
 pub(crate) fn index_scene(
-    ids: &[u64],
-    kinds: &[u8],
-    delays: &[u16],
-    locked: &[u8],
-    xs: &[i32],
-    ys: &[i32],
-    zs: &[i32],
-    sources: &[u64],
-    sinks: &[u64],
-    transfers: &[u8],
+    scene: &Scene<'_>,
     first: usize,
     room: &[usize],
-    order: &mut [usize],
-    starts: &mut [usize],
-    stops: &mut [usize],
-) -> EdgePositions
-    requires { IndexRoom order.old starts.old stops.old }
-    ensures { Indexed scene_limits (component_lists ids.now kinds.now delays.now locked.now xs.now ys.now zs.now) (connection_lists sources.now sinks.now transfers.now) (room_outputs (length ids.now) (length sources.now) first room.now) order.new starts.new stops.new result.checked result.edges }
+    positions: &mut Positions<'_>,
+) -> Result<usize, Refusal>
+    requires { IndexRoom (positions_lent positions.old) }
+    ensures same { SamePositions positions.old positions.new }
+    ensures indexed { Tested (check_scene scene_limits (components_lent scene.now.components) (connections_lent scene.now.connections) (outputs_lent scene.now first room.now)) scene.now.components.ids.now (connections_lent scene.now.connections) (positions_lent positions.new) result }
 {
-    let sizes = check_sizes(
-        ids, kinds, delays, locked, xs, ys, zs, sources, sinks, transfers, first, room,
-    );
-    match sizes {
-        Checked::Refused { number, place } => EdgePositions {
-            checked: sizes,
-            edges: 0,
-        },
-        Checked::Accepted => index_rows(
-            ids, kinds, delays, locked, sources, sinks, transfers, order, starts, stops,
-        ),
-    }
+    check_sizes(scene, first, room)?;
+    index_rows(scene, positions.order, positions.starts, positions.stops)
 }

@@ -1,6 +1,7 @@
 // The scene: its checks, its positions and what is said of it.
 #![tactic(auto)]
 
+pub mod lent; // lent.rt: the lists that a caller lends for positions
 pub mod check; // check.rt: the checks of a scene
 pub mod feedback; // feedback.rt: the call that writes list 4 alone
 pub mod positions; // positions.rt: the positions of an accepted scene, for calls over them

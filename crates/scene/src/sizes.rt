@@ -1,14 +1,26 @@
 // The tests of a scene's lengths: 8, 1, 2 and 7.
-ghost use Rattle.std.specs.Prelude.{◌≡◌, ◌≤◌, length};
-ghost use Rattle.rules.specs.Scene.{component_lists, connection_lists};
-ghost use Rattle.rules.specs.Refusals.{first_refusal, need_of, scene_limits, size_tests, room_outputs};
+ghost use Rattle.std.specs.Prelude.{◌≡◌, ◌≤◌};
+ghost use Rattle.rules.specs.Lent.{components_lent, connections_lent};
+ghost use Rattle.rules.specs.Refusals.{first_refusal, need_of, refused, scene_limits, size_tests};
+ghost use Rattle.scene.specs.Lent.{outputs_lent};
 ghost use Rattle.scene.specs.Room.{room_tests};
 
 use lengths::lengths_differ;
-use rules::answers::Checked;
+use rules::answers::{Refusal, RefusalKind};
+use rules::lent::Scene;
 use rules::limits::{MAX_COMPONENTS, MAX_CONNECTIONS};
 
-// The length that an output list needs, by its number, for n components and m connections.
+// How many output lists the calls of a scene write; their numbers are from 0 on.
+const LISTS: usize = 9;
+
+fn refused(kind: RefusalKind, place: usize) -> Result<(), Refusal>
+    ensures { result ≡ refused kind place }
+{
+    let place = place as u64;
+    Err(Refusal { kind, place })
+}
+
+// The length that an output list needs for n components and m connections, by the list's number in the C interface.
 fn need_of(n: usize, m: usize, list: usize) -> usize
     requires { (n ≤ scene_limits.components) × (m ≤ scene_limits.connections) }
     ensures { result ≡ need_of n m list }
@@ -29,80 +41,47 @@ fn need_of(n: usize, m: usize, list: usize) -> usize
 
 // 7: the first output list that is shorter than needed. room has the length of the shortest number list of each
 // output list, from the list of number first on; past list 8 there is none to test.
-fn check_room(n: usize, m: usize, first: usize, room: &[usize]) -> Checked
+fn check_room(n: usize, m: usize, first: usize, room: &[usize]) -> Result<(), Refusal>
     requires { (n ≤ scene_limits.components) × (m ≤ scene_limits.connections) }
     ensures { result ≡ first_refusal (room_tests n m first room.now) }
 {
-    let mut list = first;
-    let mut k = 0;
-    while k < room.len() {
-        if 8 < list {
-            return Checked::Accepted;
+    for (list, &length) in (first..LISTS).zip(room) {
+        if length < need_of(n, m, list) {
+            return refused(RefusalKind::ListTooShort, list);
         }
-        if room[k] < need_of(n, m, list) {
-            return Checked::Refused {
-                number: 7,
-                place: list as u64,
-            };
-        }
-        list += 1;
-        k += 1;
     }
-    Checked::Accepted
+    Ok(())
 }
 
 // 8, 1, 2 and 7, in this order.
-pub(crate) fn check_sizes(
-    ids: &[u64],
-    kinds: &[u8],
-    delays: &[u16],
-    locked: &[u8],
-    xs: &[i32],
-    ys: &[i32],
-    zs: &[i32],
-    sources: &[u64],
-    sinks: &[u64],
-    transfers: &[u8],
-    first: usize,
-    room: &[usize],
-) -> Checked
-    ensures { result ≡ first_refusal (size_tests scene_limits (component_lists ids.now kinds.now delays.now locked.now xs.now ys.now zs.now) (connection_lists sources.now sinks.now transfers.now) (room_outputs (length ids.now) (length sources.now) first room.now)) }
+pub(crate) fn check_sizes(scene: &Scene<'_>, first: usize, room: &[usize]) -> Result<(), Refusal>
+    ensures { result ≡ first_refusal (size_tests scene_limits (components_lent scene.now.components) (connections_lent scene.now.connections) (outputs_lent scene.now first room.now)) }
 {
+    let components = &scene.components;
+    let n = components.ids.len();
     let component_lengths = [
-        ids.len(),
-        kinds.len(),
-        delays.len(),
-        locked.len(),
-        xs.len(),
-        ys.len(),
-        zs.len(),
+        n,
+        components.kinds.len(),
+        components.delays.len(),
+        components.locked.len(),
+        components.xs.len(),
+        components.ys.len(),
+        components.zs.len(),
     ];
     if lengths_differ(&component_lengths) {
-        return Checked::Refused {
-            number: 8,
-            place: 0,
-        };
+        return refused(RefusalKind::LengthsDiffer, 0);
     }
-    let connection_lengths = [sources.len(), sinks.len(), transfers.len()];
+    let connections = &scene.connections;
+    let m = connections.sources.len();
+    let connection_lengths = [m, connections.sinks.len(), connections.transfers.len()];
     if lengths_differ(&connection_lengths) {
-        return Checked::Refused {
-            number: 8,
-            place: 1,
-        };
+        return refused(RefusalKind::LengthsDiffer, 1);
     }
-    let n = ids.len();
     if MAX_COMPONENTS < n {
-        return Checked::Refused {
-            number: 1,
-            place: n as u64,
-        };
+        return refused(RefusalKind::TooManyComponents, n);
     }
-    let m = sources.len();
     if MAX_CONNECTIONS < m {
-        return Checked::Refused {
-            number: 2,
-            place: m as u64,
-        };
+        return refused(RefusalKind::TooManyConnections, m);
     }
     check_room(n, m, first, room)
 }

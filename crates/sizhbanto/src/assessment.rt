@@ -1,14 +1,15 @@
 // The call for C. A list is a pointer and the number of its entries, and an answer is its numbers. No list that is
 // written may overlap another. The call keeps nothing after it returns.
-ghost use Rattle.std.specs.Prelude.{◌≡◌, [], ◌∷◌};
+ghost use Rattle.std.specs.Prelude.{Result, ◌≡◌, [], ◌∷◌};
 ghost use Rattle.rules.specs.Scene.{component_lists, connection_lists};
 ghost use Rattle.rules.specs.Refusals.{scene_limits};
 ghost use Rattle.rules.specs.Assess.{assess_lists, scene_numbers, AssessCall};
-ghost use Rattle.rules.specs.declared.answers.SceneAnswer.{SceneAnswer};
+ghost use Rattle.rules.specs.declared.answers.Assessment.{Assessment};
+ghost use Rattle.rules.specs.declared.answers.Refusal.{Refusal};
 
-use assess::assess::assess_scene;
-use rules::answers::SceneAnswer;
-use tables::codes::{pattern_code, scope_code};
+use assess::assess::assess_lists;
+use rules::answers::{Assessment, Refusal};
+use rules::lent::{Components, Connections, LabelLists, ProjectionLists, ReasonLists, Scene};
 
 // The number and place of a refusal, 0 and 0 where the scene is accepted; then scope, pattern and confidence; then how
 // many entries of lists 3 and 4 are used, how many of list 5 are 1 and 0, and how many of lists 6 and 7 are used. Under
@@ -29,32 +30,16 @@ pub struct SceneNumbers {
     pub path_ids: u64,
 }
 
-// The numbers of an answer.
-fn scene_numbers(answer: SceneAnswer) -> SceneNumbers
-    ensures { result.number ∷ result.place ∷ result.scope ∷ result.pattern ∷ result.confidence ∷ result.reasons ∷ result.feedback ∷ result.retained ∷ result.compressed ∷ result.projected ∷ result.path_ids ∷ [] ≡ scene_numbers answer }
-{
-    match answer {
-        SceneAnswer::Refused { number, place } => SceneNumbers {
-            number: number,
-            place: place,
-            scope: 0,
-            pattern: 0,
-            confidence: 0,
-            reasons: 0,
-            feedback: 0,
-            retained: 0,
-            compressed: 0,
-            projected: 0,
-            path_ids: 0,
-        },
-        SceneAnswer::Assessed(assessment) => {
-            let scope = assessment.scope;
-            let pattern = assessment.pattern;
-            SceneNumbers {
+impl From<Result<Assessment, Refusal>> for SceneNumbers {
+    ghost from_gives = { λ answer numbers. numbers.number ∷ numbers.place ∷ numbers.scope ∷ numbers.pattern ∷ numbers.confidence ∷ numbers.reasons ∷ numbers.feedback ∷ numbers.retained ∷ numbers.compressed ∷ numbers.projected ∷ numbers.path_ids ∷ [] ≡ scene_numbers answer };
+
+    fn from(answer: Result<Assessment, Refusal>) -> SceneNumbers {
+        match answer {
+            Ok(assessment) => SceneNumbers {
                 number: 0,
                 place: 0,
-                scope: scope_code(scope),
-                pattern: pattern_code(pattern),
+                scope: assessment.scope.into(),
+                pattern: assessment.pattern.into(),
                 confidence: assessment.confidence,
                 reasons: assessment.reasons,
                 feedback: assessment.feedback,
@@ -62,7 +47,20 @@ fn scene_numbers(answer: SceneAnswer) -> SceneNumbers
                 compressed: assessment.compressed,
                 projected: assessment.projected,
                 path_ids: assessment.path_ids,
-            }
+            },
+            Err(refusal) => SceneNumbers {
+                number: refusal.kind.into(),
+                place: refusal.place,
+                scope: 0,
+                pattern: 0,
+                confidence: 0,
+                reasons: 0,
+                feedback: 0,
+                retained: 0,
+                compressed: 0,
+                projected: 0,
+                path_ids: 0,
+            },
         }
     }
 }
@@ -99,37 +97,52 @@ pub extern "C" fn sizhbanto_assess_scene(
     label_lows: &mut [u32],
     label_highs: &mut [u32],
 ) -> SceneNumbers
-    ensures { (answer : SceneAnswer) × AssessCall scene_limits (component_lists ids.now kinds.now delays.now locked.now xs.now ys.now zs.now) (connection_lists sources.now sinks.now transfers.now) (assess_lists reason_kinds.old reason_components.old reason_blocks.old reason_minimums.old reason_maximums.old feedback_ids.old marks.old projected_sources.old projected_sinks.old projected_inverted.old projected_minimums.old projected_maximums.old projected_starts.old projected_lengths.old path_ids.old label_settled.old label_lows.old label_highs.old) (assess_lists reason_kinds.new reason_components.new reason_blocks.new reason_minimums.new reason_maximums.new feedback_ids.new marks.new projected_sources.new projected_sinks.new projected_inverted.new projected_minimums.new projected_maximums.new projected_starts.new projected_lengths.new path_ids.new label_settled.new label_lows.new label_highs.new) answer × (result.number ∷ result.place ∷ result.scope ∷ result.pattern ∷ result.confidence ∷ result.reasons ∷ result.feedback ∷ result.retained ∷ result.compressed ∷ result.projected ∷ result.path_ids ∷ [] ≡ scene_numbers answer) }
+    ensures { (answer : Result Assessment Refusal) × AssessCall scene_limits (component_lists ids.now kinds.now delays.now locked.now xs.now ys.now zs.now) (connection_lists sources.now sinks.now transfers.now) (assess_lists reason_kinds.old reason_components.old reason_blocks.old reason_minimums.old reason_maximums.old feedback_ids.old marks.old projected_sources.old projected_sinks.old projected_inverted.old projected_minimums.old projected_maximums.old projected_starts.old projected_lengths.old path_ids.old label_settled.old label_lows.old label_highs.old) (assess_lists reason_kinds.new reason_components.new reason_blocks.new reason_minimums.new reason_maximums.new feedback_ids.new marks.new projected_sources.new projected_sinks.new projected_inverted.new projected_minimums.new projected_maximums.new projected_starts.new projected_lengths.new path_ids.new label_settled.new label_lows.new label_highs.new) answer × (result.number ∷ result.place ∷ result.scope ∷ result.pattern ∷ result.confidence ∷ result.reasons ∷ result.feedback ∷ result.retained ∷ result.compressed ∷ result.projected ∷ result.path_ids ∷ [] ≡ scene_numbers answer) }
 {
-    let answer = assess_scene(
-        ids,
-        kinds,
-        delays,
-        locked,
-        xs,
-        ys,
-        zs,
-        sources,
-        sinks,
-        transfers,
-        reason_kinds,
-        reason_components,
-        reason_blocks,
-        reason_minimums,
-        reason_maximums,
+    let scene = Scene {
+        components: Components {
+            ids,
+            kinds,
+            delays,
+            locked,
+            xs,
+            ys,
+            zs,
+        },
+        connections: Connections {
+            sources,
+            sinks,
+            transfers,
+        },
+    };
+    let mut reasons = ReasonLists {
+        kinds: reason_kinds,
+        components: reason_components,
+        blocks: reason_blocks,
+        minimums: reason_minimums,
+        maximums: reason_maximums,
+    };
+    let mut projected = ProjectionLists {
+        sources: projected_sources,
+        sinks: projected_sinks,
+        inverted: projected_inverted,
+        minimums: projected_minimums,
+        maximums: projected_maximums,
+        starts: projected_starts,
+        lengths: projected_lengths,
+        path_ids,
+    };
+    let mut labels = LabelLists {
+        settled: label_settled,
+        lows: label_lows,
+        highs: label_highs,
+    };
+    SceneNumbers::from(assess_lists(
+        &scene,
+        &mut reasons,
         feedback_ids,
         marks,
-        projected_sources,
-        projected_sinks,
-        projected_inverted,
-        projected_minimums,
-        projected_maximums,
-        projected_starts,
-        projected_lengths,
-        path_ids,
-        label_settled,
-        label_lows,
-        label_highs,
-    );
-    scene_numbers(answer)
+        &mut projected,
+        &mut labels,
+    ))
 }

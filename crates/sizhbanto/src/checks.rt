@@ -1,12 +1,14 @@
 // The calls for C. A list is a pointer and the number of its entries, and an answer is its numbers. No list that is
 // written may overlap another. A call keeps nothing after it returns.
-ghost use Rattle.std.specs.Prelude.{◌≡◌, [], ◌∷◌, length};
+ghost use Rattle.std.specs.Prelude.{Result, ◌≡◌, [], ◌∷◌, length};
 ghost use Rattle.rules.specs.Feedback.{FeedbackCall, feedback_numbers};
 ghost use Rattle.rules.specs.Scene.{component_lists, connection_lists};
 ghost use Rattle.rules.specs.Refusals.{scene_limits, check_scene, refusal_number, refusal_place, room_outputs};
-ghost use Rattle.rules.specs.declared.answers.FeedbackAnswer.{FeedbackAnswer};
+ghost use Rattle.rules.specs.declared.answers.FeedbackListed.{FeedbackListed};
+ghost use Rattle.rules.specs.declared.answers.Refusal.{Refusal};
 
-use rules::answers::{Checked, FeedbackAnswer};
+use rules::answers::{FeedbackListed, Refusal};
+use rules::lent::{Components, Connections, Scene};
 use scene::check::check_scene;
 use scene::feedback::feedback_scene;
 
@@ -16,6 +18,23 @@ use scene::feedback::feedback_scene;
 pub struct CheckedNumbers {
     pub number: u32,
     pub place: u64,
+}
+
+impl From<Result<(), Refusal>> for CheckedNumbers {
+    ghost from_gives = { λ checked numbers. (numbers.number ≡ refusal_number checked) × (numbers.place ≡ refusal_place checked) };
+
+    fn from(checked: Result<(), Refusal>) -> CheckedNumbers {
+        match checked {
+            Ok(()) => CheckedNumbers {
+                number: 0,
+                place: 0,
+            },
+            Err(refusal) => CheckedNumbers {
+                number: refusal.kind.into(),
+                place: refusal.place,
+            },
+        }
+    }
 }
 
 // check_scene for C.
@@ -37,19 +56,23 @@ pub extern "C" fn sizhbanto_check_scene(
     ensures number { result.number ≡ refusal_number (check_scene scene_limits (component_lists ids.now kinds.now delays.now locked.now xs.now ys.now zs.now) (connection_lists sources.now sinks.now transfers.now) (room_outputs (length ids.now) (length sources.now) first room.now)) }
     ensures place { result.place ≡ refusal_place (check_scene scene_limits (component_lists ids.now kinds.now delays.now locked.now xs.now ys.now zs.now) (connection_lists sources.now sinks.now transfers.now) (room_outputs (length ids.now) (length sources.now) first room.now)) }
 {
-    let checked = check_scene(
-        ids, kinds, delays, locked, xs, ys, zs, sources, sinks, transfers, first, room,
-    );
-    match checked {
-        Checked::Accepted => CheckedNumbers {
-            number: 0,
-            place: 0,
+    let scene = Scene {
+        components: Components {
+            ids,
+            kinds,
+            delays,
+            locked,
+            xs,
+            ys,
+            zs,
         },
-        Checked::Refused { number, place } => CheckedNumbers {
-            number: number,
-            place: place,
+        connections: Connections {
+            sources,
+            sinks,
+            transfers,
         },
-    }
+    };
+    CheckedNumbers::from(check_scene(&scene, first, room))
 }
 
 // The number and place of a refusal, 0 and 0 where the scene is accepted; then how many ids are listed and how many
@@ -61,6 +84,27 @@ pub struct FeedbackNumbers {
     pub place: u64,
     pub feedback: u64,
     pub reasons: u64,
+}
+
+impl From<Result<FeedbackListed, Refusal>> for FeedbackNumbers {
+    ghost from_gives = { λ answer numbers. numbers.number ∷ numbers.place ∷ numbers.feedback ∷ numbers.reasons ∷ [] ≡ feedback_numbers answer };
+
+    fn from(answer: Result<FeedbackListed, Refusal>) -> FeedbackNumbers {
+        match answer {
+            Ok(listed) => FeedbackNumbers {
+                number: 0,
+                place: 0,
+                feedback: listed.feedback,
+                reasons: listed.reasons,
+            },
+            Err(refusal) => FeedbackNumbers {
+                number: refusal.kind.into(),
+                place: refusal.place,
+                feedback: 0,
+                reasons: 0,
+            },
+        }
+    }
 }
 
 // feedback_scene for C.
@@ -78,33 +122,23 @@ pub extern "C" fn sizhbanto_feedback_scene(
     transfers: &[u8],
     feedback_ids: &mut [u64],
 ) -> FeedbackNumbers
-    ensures { (answer : FeedbackAnswer) × FeedbackCall scene_limits (component_lists ids.now kinds.now delays.now locked.now xs.now ys.now zs.now) (connection_lists sources.now sinks.now transfers.now) feedback_ids.old feedback_ids.new answer × (result.number ∷ result.place ∷ result.feedback ∷ result.reasons ∷ [] ≡ feedback_numbers answer) }
+    ensures { (answer : Result FeedbackListed Refusal) × FeedbackCall scene_limits (component_lists ids.now kinds.now delays.now locked.now xs.now ys.now zs.now) (connection_lists sources.now sinks.now transfers.now) feedback_ids.old feedback_ids.new answer × (result.number ∷ result.place ∷ result.feedback ∷ result.reasons ∷ [] ≡ feedback_numbers answer) }
 {
-    let answer = feedback_scene(
-        ids,
-        kinds,
-        delays,
-        locked,
-        xs,
-        ys,
-        zs,
-        sources,
-        sinks,
-        transfers,
-        feedback_ids,
-    );
-    match answer {
-        FeedbackAnswer::Refused { number, place } => FeedbackNumbers {
-            number: number,
-            place: place,
-            feedback: 0,
-            reasons: 0,
+    let scene = Scene {
+        components: Components {
+            ids,
+            kinds,
+            delays,
+            locked,
+            xs,
+            ys,
+            zs,
         },
-        FeedbackAnswer::Listed { feedback, reasons } => FeedbackNumbers {
-            number: 0,
-            place: 0,
-            feedback: feedback,
-            reasons: reasons,
+        connections: Connections {
+            sources,
+            sinks,
+            transfers,
         },
-    }
+    };
+    FeedbackNumbers::from(feedback_scene(&scene, feedback_ids))
 }

@@ -1,6 +1,7 @@
 // The call for C that marks strongly connected components. A list is a pointer and the number of its entries.
 ghost use Rattle.graph.specs.Fits.{SharedMarked};
 
+use graph::edges::{Edges, GroupRoom};
 use graph::mark_shared_components;
 
 // mark_shared_components for C. What head, next, order and group hold after a call whose lists fit is open.
@@ -16,5 +17,12 @@ pub extern "C" fn sizhbanto_mark_shared_components(
 ) -> bool
     ensures { SharedMarked sources.now sinks.now marks.old head.old next.old order.old group.old marks.new head.new next.new order.new group.new result }
 {
-    mark_shared_components(sources, sinks, marks, head, next, order, group)
+    let edges = Edges { sources, sinks };
+    let mut room = GroupRoom {
+        head,
+        next,
+        order,
+        group,
+    };
+    mark_shared_components(&edges, marks, &mut room)
 }

@@ -1,13 +1,11 @@
 // The calls for C that order keys and search in the order. A list is a pointer and the number of its entries, and an
 // answer is its numbers.
-ghost use Rattle.std.specs.Prelude.{◌≡◌};
-ghost use Rattle.rules.specs.declared.positions.Found.{Found};
+ghost use Rattle.std.specs.Prelude.{Option, ℕ, ◌≡◌};
 ghost use Rattle.order.specs.Sorted.{SortedPositions};
 ghost use Rattle.order.specs.Searched.{Searched, is_found, found_position};
 
 use order::search::find_position;
 use order::sort::sort_positions;
-use rules::positions::Found;
 
 // sort_positions for C. What scratch holds after a call that had room is open.
 #[unsafe(no_mangle)]
@@ -29,21 +27,22 @@ pub struct FoundNumbers {
     pub position: usize,
 }
 
+impl From<Option<usize>> for FoundNumbers {
+    ghost from_gives = { λ answer numbers. (numbers.found ≡ is_found answer) × (numbers.position ≡ found_position answer) };
+
+    fn from(answer: Option<usize>) -> FoundNumbers {
+        FoundNumbers {
+            found: answer.is_some(),
+            position: answer.unwrap_or(0),
+        }
+    }
+}
+
 // find_position for C. Where order is not the ordered positions of the keys, which position that has the key is
 // answered, or none, is open.
 #[unsafe(no_mangle)]
 pub extern "C" fn sizhbanto_find_position(keys: &[u64], order: &[usize], key: u64) -> FoundNumbers
-    ensures { (answer : Found) × Searched keys.now order.now key answer × (result.found ≡ is_found answer) × (result.position ≡ found_position answer) }
+    ensures { (answer : Option ℕ) × Searched keys.now order.now key answer × (result.found ≡ is_found answer) × (result.position ≡ found_position answer) }
 {
-    let answer = find_position(keys, order, key);
-    match answer {
-        Found::At(position) => FoundNumbers {
-            found: true,
-            position: position,
-        },
-        Found::Missing => FoundNumbers {
-            found: false,
-            position: 0,
-        },
-    }
+    FoundNumbers::from(find_position(keys, order, key))
 }

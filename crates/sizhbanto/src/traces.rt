@@ -1,15 +1,19 @@
 // The trace call and recording for C. A list is a pointer and the number of its entries, and an answer is its numbers. No
 // list that is written may overlap another. A call keeps nothing after it returns.
-ghost use Rattle.std.specs.Prelude.{◌≡◌, [], ◌∷◌};
+ghost use Rattle.std.specs.Prelude.{Result, ◌≡◌, [], ◌∷◌};
 ghost use Rattle.rules.specs.Pulses.{event_lists};
 ghost use Rattle.rules.specs.Verdicts.{contract_lists, finding_lists};
-ghost use Rattle.rules.specs.Traces.{trace_limits, trace_lists, transient_numbers, TraceCall};
+ghost use Rattle.rules.specs.Traces.{trace_limits, trace_lists, transient_numbers, transient_tallies, TraceCall};
 ghost use Rattle.rules.specs.Recording.{RecordCall};
+ghost use Rattle.rules.specs.declared.answers.Refusal.{Refusal};
 ghost use Rattle.rules.specs.declared.transient.TransientAssessment.{TransientAssessment};
-ghost use Rattle.recording.specs.Held.{record_of};
+ghost use Rattle.recording.specs.Held.{record_of, recorded_numbers};
 
-use recording::record::{RecordedTrace, TransientRecord, recorded};
-use rules::transient::{TransientAnswer, TransientAssessment};
+use recording::held::{Recorded, TransientRecord};
+use recording::record::recorded;
+use rules::answers::Refusal;
+use rules::lent::{Contracts, Events, Findings, Trace};
+use rules::transient::TransientAssessment;
 use transient::trace::assess_transients;
 
 // The number and place of a refusal, 0 and 0 where the trace is accepted; then how many findings were written and how many
@@ -24,31 +28,29 @@ pub struct AssessedTrace {
     pub tallies: [u64; 5],
 }
 
-// The numbers of an answer.
-fn trace_numbers(assessment: TransientAssessment) -> AssessedTrace
-    ensures numbers { result.number ∷ result.place ∷ result.findings ∷ result.contracts_applied ∷ [] ≡ transient_numbers assessment.answer }
-    ensures tallies { result.tallies ≡ assessment.tallies }
-{
-    let answer = assessment.answer;
-    let tallies = assessment.tallies;
-    match answer {
-        TransientAnswer::Refused { number, place } => AssessedTrace {
-            number: number,
-            place: place,
-            findings: 0,
-            contracts_applied: 0,
-            tallies: tallies,
-        },
-        TransientAnswer::Assessed {
-            findings,
-            contracts_applied,
-        } => AssessedTrace {
-            number: 0,
-            place: 0,
-            findings: findings,
-            contracts_applied: contracts_applied,
-            tallies: tallies,
-        },
+impl From<Result<TransientAssessment, Refusal>> for AssessedTrace {
+    ghost from_gives = { λ answer numbers. (numbers.number ∷ numbers.place ∷ numbers.findings ∷ numbers.contracts_applied ∷ [] ≡ transient_numbers answer) × (numbers.tallies ≡ transient_tallies answer) };
+
+    fn from(answer: Result<TransientAssessment, Refusal>) -> AssessedTrace {
+        match answer {
+            Ok(assessment) => {
+                let tallies = assessment.tallies;
+                AssessedTrace {
+                    number: 0,
+                    place: 0,
+                    findings: assessment.findings,
+                    contracts_applied: assessment.contracts_applied,
+                    tallies,
+                }
+            }
+            Err(refusal) => AssessedTrace {
+                number: refusal.kind.into(),
+                place: refusal.place,
+                findings: 0,
+                contracts_applied: 0,
+                tallies: [0; 5],
+            },
+        }
     }
 }
 
@@ -79,33 +81,74 @@ pub extern "C" fn sizhbanto_assess_transients(
     finding_verdicts: &mut [u8],
     finding_rationales: &mut [u8],
 ) -> AssessedTrace
-    ensures { (assessment : TransientAssessment) × TraceCall trace_limits (trace_lists unit (event_lists ticks.now components.now powered.now) (contract_lists contract_components.now contract_intents.now contract_powered.now contract_polarities.now contract_units.now contract_smallest.now contract_largest.now)) (finding_lists finding_components.old finding_polarities.old finding_units.old finding_start_ticks.old finding_end_ticks.old finding_widths.old finding_steady.old finding_baselines.old finding_starts.old finding_ends.old finding_verdicts.old finding_rationales.old) (finding_lists finding_components.new finding_polarities.new finding_units.new finding_start_ticks.new finding_end_ticks.new finding_widths.new finding_steady.new finding_baselines.new finding_starts.new finding_ends.new finding_verdicts.new finding_rationales.new) assessment × (result.number ∷ result.place ∷ result.findings ∷ result.contracts_applied ∷ [] ≡ transient_numbers assessment.answer) × (result.tallies ≡ assessment.tallies) }
+    ensures { (answer : Result TransientAssessment Refusal) × TraceCall trace_limits (trace_lists unit (event_lists ticks.now components.now powered.now) (contract_lists contract_components.now contract_intents.now contract_powered.now contract_polarities.now contract_units.now contract_smallest.now contract_largest.now)) (finding_lists finding_components.old finding_polarities.old finding_units.old finding_start_ticks.old finding_end_ticks.old finding_widths.old finding_steady.old finding_baselines.old finding_starts.old finding_ends.old finding_verdicts.old finding_rationales.old) (finding_lists finding_components.new finding_polarities.new finding_units.new finding_start_ticks.new finding_end_ticks.new finding_widths.new finding_steady.new finding_baselines.new finding_starts.new finding_ends.new finding_verdicts.new finding_rationales.new) answer × (result.number ∷ result.place ∷ result.findings ∷ result.contracts_applied ∷ [] ≡ transient_numbers answer) × (result.tallies ≡ transient_tallies answer) }
 {
-    trace_numbers(assess_transients(
+    let trace = Trace {
         unit,
-        ticks,
-        components,
-        powered,
-        contract_components,
-        contract_intents,
-        contract_powered,
-        contract_polarities,
-        contract_units,
-        contract_smallest,
-        contract_largest,
-        finding_components,
-        finding_polarities,
-        finding_units,
-        finding_start_ticks,
-        finding_end_ticks,
-        finding_widths,
-        finding_steady,
-        finding_baselines,
-        finding_starts,
-        finding_ends,
-        finding_verdicts,
-        finding_rationales,
-    ))
+        events: Events {
+            ticks,
+            components,
+            powered,
+        },
+        contracts: Contracts {
+            components: contract_components,
+            intents: contract_intents,
+            powered: contract_powered,
+            polarities: contract_polarities,
+            units: contract_units,
+            smallest: contract_smallest,
+            largest: contract_largest,
+        },
+    };
+    let mut findings = Findings {
+        components: finding_components,
+        polarities: finding_polarities,
+        units: finding_units,
+        start_ticks: finding_start_ticks,
+        end_ticks: finding_end_ticks,
+        widths: finding_widths,
+        steady: finding_steady,
+        baselines: finding_baselines,
+        starts: finding_starts,
+        ends: finding_ends,
+        verdicts: finding_verdicts,
+        rationales: finding_rationales,
+    };
+    AssessedTrace::from(assess_transients(&trace, &mut findings))
+}
+
+// The same numbers without the tallies, and the record after the call.
+#[repr(C)]
+#[derive(Drop)]
+pub struct RecordedTrace {
+    pub number: u32,
+    pub place: u64,
+    pub findings: u64,
+    pub contracts_applied: u64,
+    pub held: TransientRecord,
+}
+
+impl From<Recorded> for RecordedTrace {
+    ghost from_gives = { λ recorded numbers. (numbers.number ∷ numbers.place ∷ numbers.findings ∷ numbers.contracts_applied ∷ [] ≡ recorded_numbers recorded.answer) × (numbers.held ≡ recorded.held) };
+
+    fn from(recorded: Recorded) -> RecordedTrace {
+        match recorded.answer {
+            Ok(counts) => RecordedTrace {
+                number: 0,
+                place: 0,
+                findings: counts.findings,
+                contracts_applied: counts.contracts_applied,
+                held: recorded.held,
+            },
+            Err(refusal) => RecordedTrace {
+                number: refusal.kind.into(),
+                place: refusal.place,
+                findings: 0,
+                contracts_applied: 0,
+                held: recorded.held,
+            },
+        }
+    }
 }
 
 // recorded for C: the record goes in and comes out by value.
@@ -138,30 +181,36 @@ pub extern "C" fn sizhbanto_record_trace(
 ) -> RecordedTrace
     ensures { RecordCall trace_limits (record_of held) (trace_lists unit (event_lists ticks.now components.now powered.now) (contract_lists contract_components.now contract_intents.now contract_powered.now contract_polarities.now contract_units.now contract_smallest.now contract_largest.now)) (finding_lists finding_components.old finding_polarities.old finding_units.old finding_start_ticks.old finding_end_ticks.old finding_widths.old finding_steady.old finding_baselines.old finding_starts.old finding_ends.old finding_verdicts.old finding_rationales.old) (finding_lists finding_components.new finding_polarities.new finding_units.new finding_start_ticks.new finding_end_ticks.new finding_widths.new finding_steady.new finding_baselines.new finding_starts.new finding_ends.new finding_verdicts.new finding_rationales.new) (result.number ∷ result.place ∷ result.findings ∷ result.contracts_applied ∷ []) (record_of result.held) }
 {
-    recorded(
-        held,
+    let trace = Trace {
         unit,
-        ticks,
-        components,
-        powered,
-        contract_components,
-        contract_intents,
-        contract_powered,
-        contract_polarities,
-        contract_units,
-        contract_smallest,
-        contract_largest,
-        finding_components,
-        finding_polarities,
-        finding_units,
-        finding_start_ticks,
-        finding_end_ticks,
-        finding_widths,
-        finding_steady,
-        finding_baselines,
-        finding_starts,
-        finding_ends,
-        finding_verdicts,
-        finding_rationales,
-    )
+        events: Events {
+            ticks,
+            components,
+            powered,
+        },
+        contracts: Contracts {
+            components: contract_components,
+            intents: contract_intents,
+            powered: contract_powered,
+            polarities: contract_polarities,
+            units: contract_units,
+            smallest: contract_smallest,
+            largest: contract_largest,
+        },
+    };
+    let mut findings = Findings {
+        components: finding_components,
+        polarities: finding_polarities,
+        units: finding_units,
+        start_ticks: finding_start_ticks,
+        end_ticks: finding_end_ticks,
+        widths: finding_widths,
+        steady: finding_steady,
+        baselines: finding_baselines,
+        starts: finding_starts,
+        ends: finding_ends,
+        verdicts: finding_verdicts,
+        rationales: finding_rationales,
+    };
+    RecordedTrace::from(recorded(held, &trace, &mut findings))
 }

@@ -5,7 +5,8 @@ use mathlib.Core.Path.{◌≡◌, refl, sym, ap, ◌∙◌}
 use Prim.Native.Nat.{ℕ, zero, suc, ◌<◌, ◌≤◌}
 use native.Mathlib.Omega.{arith}
 use borrow.Author.Tests.{lt-ltb, le-ltb}
-use lib.Dec.{ltb}
+use Rattle.std.proofs.lemmas.Bool.{lt-leb}
+use lib.Dec.{leb, ltb}
 use lib.ListN.{length, get_or, get_or-eq_default}
 use Rattle.rules.specs.Kinds.{kind_table, kind_row, conductor, delay_by, component_delay, edge_timing, is_device}
 use Rattle.rules.specs.Codes.{semantics_code}
@@ -16,7 +17,7 @@ use Rattle.rules.specs.declared.kinds.KindRow.{KindRow}
 use Rattle.rules.specs.declared.kinds.KindDelay.{KindDelay}
 use Rattle.rules.specs.declared.kinds.KindDelay.TheVariants.{Fixed, Own}
 use Rattle.rules.specs.declared.kinds.TemporalSemantics.{TemporalSemantics}
-use Rattle.rules.specs.declared.kinds.DeviceMeaning.TheVariants.{NoDevice, Device}
+use Rattle.std.specs.Prelude.{Some, None}
 
 -- inside a list the default does not matter
 pub get_d-inside : {A : Type 0} (l : List A) (i : ℕ) (d e : A) → i < length l → get_or l i d ≡ get_or l i e
@@ -61,7 +62,7 @@ unfolding delay_of row_of
 edge-timing-of c = refl
 
 -- the devices by their codes
-device-codes : (code : ℕ) → is_device (get_or kind_table code conductor) ≡ cond (ltb code 9) false (ltb code 13)
+device-codes : (code : ℕ) → is_device (get_or kind_table code conductor) ≡ cond (ltb code 9) false (leb code 12)
 unfolding is_device
 device-codes zero = refl
 device-codes (suc zero) = refl
@@ -76,27 +77,27 @@ device-codes (suc (suc (suc (suc (suc (suc (suc (suc (suc zero))))))))) = refl
 device-codes (suc (suc (suc (suc (suc (suc (suc (suc (suc (suc zero)))))))))) = refl
 device-codes (suc (suc (suc (suc (suc (suc (suc (suc (suc (suc (suc zero))))))))))) = refl
 device-codes (suc (suc (suc (suc (suc (suc (suc (suc (suc (suc (suc (suc zero)))))))))))) = refl
-device-codes (suc (suc (suc (suc (suc (suc (suc (suc (suc (suc (suc (suc (suc code))))))))))))) = rw (le-ltb (suc (suc (suc (suc (suc (suc (suc (suc (suc (suc (suc (suc (suc code))))))))))))) 9 (omega arith), le-ltb (suc (suc (suc (suc (suc (suc (suc (suc (suc (suc (suc (suc (suc code))))))))))))) 13 (omega arith))
+device-codes (suc (suc (suc (suc (suc (suc (suc (suc (suc (suc (suc (suc (suc code))))))))))))) = rw (le-ltb (suc (suc (suc (suc (suc (suc (suc (suc (suc (suc (suc (suc (suc code))))))))))))) 9 (omega arith), lt-leb (suc (suc (suc (suc (suc (suc (suc (suc (suc (suc (suc (suc (suc code))))))))))))) 12 (omega arith))
 
-pub below_devices : (code : ℕ) → code < 9 → false ≡ is_device (kind_row code)
+pub below_devices : (code : ℕ) → code < 9 → leb 9 code ≡ is_device (kind_row code)
 unfolding kind_row
-below_devices code h = sym (device-codes code ∙ rw (lt-ltb code 9 h))
+below_devices code h = lt-leb 9 code h ∙ sym (device-codes code ∙ rw (lt-ltb code 9 h))
 
-pub from_devices : (code : ℕ) → 9 ≤ code → ltb code 13 ≡ is_device (kind_row code)
+pub from_devices : (code : ℕ) → 9 ≤ code → leb code 12 ≡ is_device (kind_row code)
 unfolding kind_row
 from_devices code h = sym (device-codes code ∙ rw (le-ltb code 9 h))
 
 -- what a kind means as a device
-pub no-device : (code : ℕ) → (kind_row code).meaning ≡ NoDevice → false ≡ is_device (kind_row code)
+pub no-device : (code : ℕ) → (kind_row code).meaning ≡ None → false ≡ is_device (kind_row code)
 unfolding is_device
 no-device code e = rw e
 
-pub some-device : (code : ℕ) (s : TemporalSemantics) → (kind_row code).meaning ≡ Device s → true ≡ is_device (kind_row code)
+pub some-device : (code : ℕ) (s : TemporalSemantics) → (kind_row code).meaning ≡ Some s → true ≡ is_device (kind_row code)
 unfolding is_device
 some-device code s e = rw e
 
-pub no-meaning : (code : ℕ) → (kind_row code).meaning ≡ NoDevice → ◌≡◌ {A = ℕ} 0 (meaning_code (kind_row code).meaning)
+pub no-meaning : (code : ℕ) → (kind_row code).meaning ≡ None → ◌≡◌ {A = ℕ} 0 (meaning_code (kind_row code).meaning)
 no-meaning code e = rw e
 
-pub some-meaning : (code r : ℕ) (s : TemporalSemantics) → (kind_row code).meaning ≡ Device s → r ≡ semantics_code s → r ≡ meaning_code (kind_row code).meaning
+pub some-meaning : (code r : ℕ) (s : TemporalSemantics) → (kind_row code).meaning ≡ Some s → r ≡ semantics_code s → r ≡ meaning_code (kind_row code).meaning
 some-meaning code r s e q = rw e q

@@ -3,60 +3,58 @@ ghost use Rattle.std.specs.Prelude.{◌≡◌};
 ghost use Rattle.rules.specs.Kinds.{kind_row, delay_by, component_delay, edge_timing, is_device};
 ghost use Rattle.rules.specs.Describe.{meaning_code};
 
-use crate::codes::semantics_code;
 use rules::delay::DelayRange;
 use rules::kinds::{
-    DeviceMeaning, EdgeBehavior, EdgeTiming, KindDelay, KindRow, TemporalNodeKind,
-    TemporalSemantics,
+    BlockKind, EdgeBehavior, EdgeTiming, KindDelay, KindRow, TemporalNodeKind, TemporalSemantics,
 };
 
 const CONDUCTOR: KindRow = KindRow {
     node: TemporalNodeKind::Conductor,
     delay: KindDelay::Fixed(0),
     behavior: EdgeBehavior::Immediate,
-    meaning: DeviceMeaning::NoDevice,
+    meaning: None,
 };
 
 const SOURCE: KindRow = KindRow {
     node: TemporalNodeKind::Source,
     delay: KindDelay::Fixed(0),
     behavior: EdgeBehavior::Immediate,
-    meaning: DeviceMeaning::NoDevice,
+    meaning: None,
 };
 
 const WIRE: KindRow = KindRow {
     node: TemporalNodeKind::Wire,
     delay: KindDelay::Fixed(0),
     behavior: EdgeBehavior::OrderSensitive,
-    meaning: DeviceMeaning::NoDevice,
+    meaning: None,
 };
 
 const TORCH: KindRow = KindRow {
     node: TemporalNodeKind::Inverter,
     delay: KindDelay::Fixed(1),
     behavior: EdgeBehavior::DelayedInvert,
-    meaning: DeviceMeaning::Device(TemporalSemantics::DelayedInvert),
+    meaning: Some(TemporalSemantics::DelayedInvert),
 };
 
 const REPEATER: KindRow = KindRow {
     node: TemporalNodeKind::Delay,
     delay: KindDelay::Own(1),
     behavior: EdgeBehavior::DelayedForward,
-    meaning: DeviceMeaning::Device(TemporalSemantics::DelayedForward),
+    meaning: Some(TemporalSemantics::DelayedForward),
 };
 
 const COMPARATOR: KindRow = KindRow {
     node: TemporalNodeKind::Comparator,
     delay: KindDelay::Fixed(0),
     behavior: EdgeBehavior::Analog,
-    meaning: DeviceMeaning::Device(TemporalSemantics::CompareOrSubtract),
+    meaning: Some(TemporalSemantics::CompareOrSubtract),
 };
 
 const PISTON: KindRow = KindRow {
     node: TemporalNodeKind::Actuator,
     delay: KindDelay::Fixed(1),
     behavior: EdgeBehavior::Mechanical,
-    meaning: DeviceMeaning::Device(TemporalSemantics::MechanicalActuation),
+    meaning: Some(TemporalSemantics::MechanicalActuation),
 };
 
 // By code: Air, Solid, Transparent, Lever, Button, PressurePlate, RedstoneLamp, RedstoneBlock, RedstoneWire,
@@ -74,24 +72,14 @@ pub fn kind_row(code: u8) -> KindRow
     if i < 13 { KINDS[i] } else { CONDUCTOR }
 }
 
-// A byte as a number of ticks.
-fn wide(byte: u8) -> u32
-    ensures { result ≡ byte }
-{
-    byte as u32
-}
-
 // The delay by what a row says and a delay word.
 pub fn delay_by(delay: KindDelay, word: u16) -> u32
     ensures { result ≡ delay_by delay word }
 {
     match delay {
-        KindDelay::Fixed(ticks) => wide(ticks),
-        KindDelay::Own(absent) => if word < 256 {
-            word as u32
-        } else {
-            wide(absent)
-        },
+        KindDelay::Fixed(ticks) => u32::from(ticks),
+        KindDelay::Own(_) if word < 256 => u32::from(word),
+        KindDelay::Own(absent) => u32::from(absent),
     }
 }
 
@@ -99,9 +87,7 @@ pub fn delay_by(delay: KindDelay, word: u16) -> u32
 pub fn component_delay(code: u8, word: u16) -> u32
     ensures { result ≡ component_delay code word }
 {
-    let row = kind_row(code);
-    let delay = row.delay;
-    delay_by(delay, word)
+    delay_by(kind_row(code).delay, word)
 }
 
 // What an edge takes from its source.
@@ -109,41 +95,31 @@ pub fn edge_timing(code: u8, word: u16) -> EdgeTiming
     ensures { result ≡ edge_timing code word }
 {
     let row = kind_row(code);
-    let delay = row.delay;
-    let behavior = row.behavior;
-    let ticks = delay_by(delay, word);
+    let ticks = delay_by(row.delay, word);
     EdgeTiming {
         delay: DelayRange {
             minimum_redstone_ticks: ticks,
             maximum_redstone_ticks: ticks,
         },
-        behavior,
+        behavior: row.behavior,
     }
 }
 
-// The kinds from the torch to the last are devices.
-const FIRST_DEVICE: u8 = 9;
+// The kinds from the torch to the piston are devices.
+const FIRST_DEVICE: u8 = BlockKind::RedstoneTorch as u8;
 
-const CODES: u8 = 13;
+const LAST_DEVICE: u8 = BlockKind::Piston as u8;
 
 // Whether a kind is a device. The code tells it without the row, which takes longer.
 pub fn is_device(code: u8) -> bool
     ensures { result ≡ is_device (kind_row code) }
 {
-    if code < FIRST_DEVICE {
-        return false;
-    }
-    code < CODES
+    FIRST_DEVICE <= code && code <= LAST_DEVICE
 }
 
 // The number of what a kind means as a device; 0 where it is none.
 pub fn meaning_code(code: u8) -> u8
     ensures { result ≡ meaning_code (kind_row code).meaning }
 {
-    let row = kind_row(code);
-    let meaning = row.meaning;
-    match meaning {
-        DeviceMeaning::NoDevice => 0,
-        DeviceMeaning::Device(semantics) => semantics_code(semantics),
-    }
+    kind_row(code).meaning.map_or(0, u8::from)
 }

@@ -1,10 +1,11 @@
 -- After an accepted call that writes lists 3 to 8, the lists give the scene's report. Assumes nothing.
+use Rattle.std.specs.Prelude.{Result, Ok}
 use mathlib.Core.List.{List, map, flat_map}
 use mathlib.Core.Path.{◌≡◌, refl, sym, ap, ◌∙◌}
 use Prim.Native.Nat.{ℕ, ◌≤◌, ◌<◌}
 use native.Mathlib.Omega.{arith}
 use lib.ListN.{length, get_or, take, length-map}
-use Rattle.rules.specs.Lists.{indices, written}
+use Rattle.rules.specs.Lists.{indices, rows, written}
 use Rattle.rules.specs.Graph.{Edge}
 use Rattle.rules.specs.Scene.{Component, Scene, id_of, delay_at, edges}
 use Rattle.rules.specs.Labels.{Label, unsettled, between, label, labels, settled_flag, low_sum, high_sum}
@@ -13,16 +14,15 @@ use Rattle.rules.specs.Projection.{ProjectedEdge, projected}
 use Rattle.rules.specs.Report.{reason_line, projected_lines, label_lines, pattern_text, report}
 use Rattle.rules.specs.Assess.{AssessLists, stored_edge, AssessedBy, assessment}
 use Rattle.rules.specs.declared.answers.Assessment.{Assessment}
-use Rattle.rules.specs.declared.answers.Checked.TheVariants.{Accepted}
-use Rattle.rules.specs.declared.answers.SceneAnswer.{SceneAnswer}
-use Rattle.rules.specs.declared.answers.SceneAnswer.TheVariants.{Assessed}
+use Rattle.rules.specs.Refusals.{accepted}
+use Rattle.rules.specs.declared.answers.Refusal.{Refusal}
 use Rattle.rules.proofs.Lists.{flat-map}
 use Rattle.rules.proofs.Indices.{map_at}
 use Rattle.rules.proofs.Written.{written-front, written-length}
 use Rattle.laws.proofs.StoredEdges.{stored_edges, field_back, stored_back}
 use Rattle.laws.proofs.Room.{labels-fit}
 use Rattle.laws.proofs.CallEntries.{assessed-same}
-use Rattle.text.specs.ReportLists.{rows, feedback_of, reason_of, reason_row, projected_row, label_of, label_row, printed_lists, report_by, ReportWithin}
+use Rattle.text.specs.ReportLists.{feedback_of, reason_of, reason_row, projected_row, label_of, label_row, printed_lists, report_by, ReportWithin}
 use Rattle.text.proofs.PutSteps.{rows_are}
 
 -- An entry read back
@@ -45,7 +45,7 @@ written-within f l old xs e = omega (arith, ap length e, written-length old (map
 
 -- The parts of the report
 
-module _ (s : Scene) (old new : AssessLists) {answer : SceneAnswer} (call : AssessedBy Accepted s old new answer) where
+module _ (s : Scene) (old new : AssessLists) {answer : Result Assessment Refusal} (call : AssessedBy accepted s old new answer) where
   abbrev cs : List Component
   cs = s.components
 
@@ -105,7 +105,7 @@ module _ (s : Scene) (old new : AssessLists) {answer : SceneAnswer} (call : Asse
 
 -- The report, and that its entries stand in the lists
 
-module _ {s : Scene} {old new : AssessLists} {a : Assessment} {ids : List ℕ} (call : AssessedBy Accepted s old new (Assessed a)) (named : map id_of s.components ≡ ids) where
+module _ {s : Scene} {old new : AssessLists} {a : Assessment} {ids : List ℕ} (call : AssessedBy accepted s old new (Ok a)) (named : map id_of s.components ≡ ids) where
   pub report-by : report_by a ids (printed_lists new) ≡ report s.components (edges s)
   report-by = rw (assessed-same call.answered, ← named) (by-assessment s old new call)
 

@@ -1,23 +1,23 @@
 -- The report of a scene by the answer of the call that assesses it. Assumes nothing.
-use mathlib.Core.List.{List, [], ◌∷◌}
+use Rattle.std.specs.Prelude.{Result, Ok, Err}
+use mathlib.Core.List.{[], ◌∷◌}
 use mathlib.Core.Path.{◌≡◌, refl, sym, ap, ◌∙◌}
 use Prim.Native.Nat.{ℕ, ◌≤◌}
 use native.Mathlib.Omega.{arith}
 use lib.ListN.{length, replicate, length-replicate}
 use Rattle.rules.specs.Scene.{Scene, ComponentLists, ConnectionLists, scene_of, edges}
-use Rattle.rules.specs.Refusals.{scene_limits, check_scene}
+use Rattle.rules.specs.Refusals.{Checked, accepted, scene_limits, check_scene}
 use Rattle.rules.specs.Assess.{AssessLists, assess_lists, AssessedBy, AssessCall, check_assess, assess_checked, scene_answer}
 use Rattle.rules.specs.Report.{component_fields, connection_fields, refusal_text, report, check_read, report_checked}
 use Rattle.rules.specs.declared.answers.Assessment.{Assessment}
-use Rattle.rules.specs.declared.answers.Checked.{Checked}
-use Rattle.rules.specs.declared.answers.Checked.TheVariants.{Accepted, Refused}
-use Rattle.rules.specs.declared.answers.SceneAnswer.{SceneAnswer}
-use Rattle.rules.specs.declared.answers.SceneAnswer.TheVariants as Answer
+use Rattle.rules.specs.declared.answers.Refusal.{Refusal}
 use Rattle.rules.proofs.Columns.{component-ids}
 use Rattle.laws.proofs.ReadScenes.{fields-scene, read-checked}
 use Rattle.laws.proofs.ReportRoom.{report-room}
-use Rattle.text.specs.ReportLists.{Room, Put, printed_lists, report_by, ReportWithin}
-use Rattle.text.specs.Answers.{FieldsRead}
+use Rattle.text.specs.ReportLists.{printed_lists, report_by, ReportWithin}
+use Rattle.text.specs.Page.{Room}
+use Rattle.text.specs.declared.page.Page.{Page}
+use Rattle.text.specs.Answers.{FieldsRead, Fresh}
 use Rattle.text.proofs.ReportLaws.{report-by, report-shapes}
 
 -- lists as long as a scene at the limits needs them
@@ -42,30 +42,13 @@ pub record Sized (o : AssessLists) : Type 0 where
   pub label_highs : length o.label_highs ≡ 512
 
 -- a refusal answered is the refusal found, and an assessment answered was accepted
-answer_number : SceneAnswer → ℕ
-answer_number (Answer.Refused number place) = number
-answer_number (Answer.Assessed a) = 0
+refused-same : (checked : Checked) (s : Scene) (r : Refusal) → ◌≡◌ {A = Result Assessment Refusal} (Err r) (scene_answer checked s) → report_checked checked s ≡ refusal_text r
+refused-same (Ok u) s r e = cc
+refused-same (Err q) s r e = let same : q ≡ r = cc in ap refusal_text same
 
-answer_place : SceneAnswer → ℕ
-answer_place (Answer.Refused number place) = place
-answer_place (Answer.Assessed a) = 0
-
-answer_case : SceneAnswer → ℕ
-answer_case (Answer.Refused number place) = 0
-answer_case (Answer.Assessed a) = 1
-
-refused-same : (checked : Checked) (s : Scene) (number place : ℕ) → Answer.Refused number place ≡ scene_answer checked s → report_checked checked s ≡ refusal_text number place
-unfolding answer_number answer_place answer_case
-refused-same Accepted s number place e = absurd (omega (arith, ap answer_case e))
-refused-same (Refused n p) s number place e =
-    let a : number ≡ n = ap answer_number e in
-    let b : place ≡ p = ap answer_place e in
-    rw (a, b)
-
-accepted-same : (checked : Checked) (s : Scene) (a : Assessment) → Answer.Assessed a ≡ scene_answer checked s → checked ≡ Accepted
-unfolding answer_case
-accepted-same Accepted s a e = refl
-accepted-same (Refused n p) s a e = absurd (omega (arith, ap answer_case e))
+accepted-same : (checked : Checked) (s : Scene) (a : Assessment) → ◌≡◌ {A = Result Assessment Refusal} (Ok a) (scene_answer checked s) → checked ≡ accepted
+accepted-same (Ok u) s a e = refl
+accepted-same (Err r) s a e = cc
 
 -- the checks of a call that is lent such lists
 lengths-same : (l : ComponentLists) (m : ConnectionLists) (o : AssessLists) → Sized o
@@ -88,33 +71,33 @@ module _ (l : ComponentLists) (m : ConnectionLists) (f : FieldsRead l m) where
         ap (λ k. assess_checked scene_limits k m old) f.components_are ∙ ap (λ k. assess_checked scene_limits (component_fields f.scene.components) k old) f.connections_are
         ∙ lengths-same (component_fields f.scene.components) (connection_fields f.scene.connections) old sized ∙ read-checked f.scene ∙ sym read_same
 
-    module _ (new : AssessLists) (answer : SceneAnswer) (call : AssessCall scene_limits l m old new answer) where
+    module _ (new : AssessLists) (answer : Result Assessment Refusal) (call : AssessCall scene_limits l m old new answer) where
       told : AssessedBy (check_scene scene_limits l m []) (scene_of l m) old new answer
       told = rw checked-same at call
 
       -- refused
-      pub scene-refused : (number place : ℕ) → answer ≡ Answer.Refused number place → refusal_text number place ≡ report_checked (check_scene scene_limits l m []) (scene_of l m)
-      scene-refused number place e = sym (refused-same (check_scene scene_limits l m []) (scene_of l m) number place (sym e ∙ told.answered))
+      pub scene_refused : (r : Refusal) → answer ≡ Err r → report_checked (check_scene scene_limits l m []) (scene_of l m) ≡ refusal_text r
+      scene_refused r e = refused-same (check_scene scene_limits l m []) (scene_of l m) r (sym e ∙ told.answered)
 
       -- assessed
-      module _ (a : Assessment) (e : answer ≡ Answer.Assessed a) where
-        accepted : check_scene scene_limits l m [] ≡ Accepted
-        accepted = accepted-same (check_scene scene_limits l m []) (scene_of l m) a (sym e ∙ told.answered)
+      module _ (a : Assessment) (e : answer ≡ Ok a) where
+        accepts : check_scene scene_limits l m [] ≡ accepted
+        accepts = accepted-same (check_scene scene_limits l m []) (scene_of l m) a (sym e ∙ told.answered)
 
-        assessed : AssessedBy Accepted (scene_of l m) old new (Answer.Assessed a)
-        assessed = rw (accepted, e) at told
+        assessed : AssessedBy accepted (scene_of l m) old new (Ok a)
+        assessed = rw (accepts, e) at told
 
-        pub scene-reported : report_by a l.ids (printed_lists new) ≡ report_checked (check_scene scene_limits l m []) (scene_of l m)
-        scene-reported = report-by assessed (component-ids l) ∙ sym (ap (λ c. report_checked c (scene_of l m)) accepted)
+        pub scene_reported : report_by a l.ids (printed_lists new) ≡ report_checked (check_scene scene_limits l m []) (scene_of l m)
+        scene_reported = report-by assessed (component-ids l) ∙ sym (ap (λ c. report_checked c (scene_of l m)) accepts)
 
-        pub scene-within : ReportWithin a l.ids (printed_lists new)
-        scene-within = report-shapes assessed (component-ids l)
+        pub scene_within : ReportWithin a l.ids (printed_lists new)
+        scene_within = report-shapes assessed (component-ids l)
 
-        pub scene-room : (out : List ℕ) → 1048576 ≤ length out → Room (report_by a l.ids (printed_lists new)) 0 out
-        scene-room out h =
-            let short : length (report f.scene.components (edges f.scene)) ≤ 1048576 = report-room f.scene (sym read_same ∙ accepted) (λ c i. (f.widths.components_fit c i).id_fits) in
+        pub scene_room : (p : Page) → Fresh p → Room (report_by a l.ids (printed_lists new)) p
+        scene_room p h =
+            let short : length (report f.scene.components (edges f.scene)) ≤ 1048576 = report-room f.scene (sym read_same ∙ accepts) (λ c i. (f.widths.components_fit c i).id_fits) in
             let same : report_by a l.ids (printed_lists new) ≡ report f.scene.components (edges f.scene) = report-by assessed (component-ids l) ∙ ap (λ s. report s.components (edges s)) scene_same in
-            record { fits = omega (arith, h, short, ap length same) }
+            record { fits = omega (arith, h.starts, h.room, short, ap length same) }
 
 -- lists made for the call
 abbrev pub fresh_lists : AssessLists
@@ -143,7 +126,3 @@ fresh-sized =
       label_lows = length-replicate {A = ℕ} 512 0;
       label_highs = length-replicate {A = ℕ} 512 0;
     }
-
--- what was put, by another name
-pub put_same : (text other : List ℕ) (at : ℕ) (old new : List ℕ) (next : ℕ) → text ≡ other → Put text at old new next → Put other at old new next
-put_same text other at old new next e p = rw e at p

@@ -1,5 +1,10 @@
--- What the lists of a scene hold after they were filled from its text, and what the report is made from:
-pub mod Filled
-pub mod Answers
--- the report by the numbers in the lists of the call, and what a writing function promises:
+-- The rows of a scene as they stand in lists:
+pub mod Rows
+-- what the reading of rows promises:
+pub mod Reading
+-- what the writing to a page promises:
+pub mod Page
+-- the report by the numbers in the lists of the call:
 pub mod ReportLists
+-- what the report of a text is made from:
+pub mod Answers

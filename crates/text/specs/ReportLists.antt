@@ -1,37 +1,17 @@
--- The report by the numbers in the lists of the call, and what a writing function promises. Assumes nothing: these are definitions.
-use Rattle.std.specs.Prelude.{cond, ◌≡◌, ℕ, ◌+◌, ◌≤◌, eqb, length, get_or, take}
-use mathlib.Core.List.{List, [], ◌∷◌, ◌++◌, flat_map}
-use Prim.Native.Char.{code}
-use Rattle.rules.specs.Lists.{indices, written_from}
-use Rattle.rules.specs.Bytes.{bytes, decimal}
+-- The report by the numbers in the lists of the call. Assumes nothing: these are definitions.
+use Rattle.std.specs.Prelude.{cond, ℕ, ◌≤◌, eqb, length, get_or, take}
+use mathlib.Core.List.{List, [], ◌++◌}
+use Rattle.rules.specs.Lists.{rows}
+use Rattle.rules.specs.Bytes.{bytes}
 use Rattle.rules.specs.Text.{field_line}
 use Rattle.rules.specs.Labels.{Label, unsettled, between}
 use Rattle.rules.specs.Reasons.{Reason, unequal_reconvergent_delay, feedback_loop, stateful_or_mechanical_device, locked_repeater}
-use Rattle.rules.specs.Projection.{ProjectedEdge}
 use Rattle.rules.specs.Report.{number_line, scope_text, pattern_text, reason_line, projected_lines, label_lines}
 use Rattle.rules.specs.Assess.{AssessLists, assess_lists, stored_edge}
 use Rattle.rules.specs.declared.answers.Assessment.{Assessment}
-
--- there is room for a text from a place on
-pub record Room (text : List ℕ) (at : ℕ) (out : List ℕ) : Type 0 where
-  pub fits : at + length text ≤ length out
-
--- a text was put into a list of bytes from a place on, where it had room: what the list holds then, and the place after the text
-pub record Put (text : List ℕ) (at : ℕ) (old new : List ℕ) (next : ℕ) : Type 0 where
-  pub room : Room text at old
-  pub content : new ≡ written_from at old text
-  pub after : next ≡ at + length text
-
--- a row for each of the first n indices
-abbrev pub rows : (ℕ → List ℕ) → ℕ → List ℕ
-rows row n = flat_map row (indices n)
-
--- an id in a row of ids, by its index: a comma stands before each but the first
-abbrev pub id_text : ℕ → ℕ → List ℕ
-id_text i v = cond (eqb i 0) (decimal v) (code "," ∷ decimal v)
-
-abbrev pub id_row : List ℕ → ℕ → List ℕ
-id_row ids i = id_text i (get_or ids i 0)
+use Rattle.rules.specs.declared.lent.ReasonLists.{ReasonLists}
+use Rattle.rules.specs.declared.lent.ProjectionLists.{ProjectionLists}
+use Rattle.rules.specs.declared.lent.LabelLists.{LabelLists}
 
 -- the reason that an entry of list 3 stands for, but for the block kind, which is not printed
 unfoldable pub reason_of : (kind component minimum maximum : ℕ) → Reason
@@ -43,10 +23,6 @@ reason_of kind v low high =
 unfoldable pub reason_row : (feedback kinds components minimums maximums : List ℕ) → ℕ → List ℕ
 reason_row feedback kinds components minimums maximums k =
     reason_line feedback (reason_of (get_or kinds k 0) (get_or components k 0) (get_or minimums k 0) (get_or maximums k 0))
-
--- a projected edge by its fields
-abbrev pub printed_edge : (source sink inverted minimum maximum : ℕ) → List ℕ → ProjectedEdge
-printed_edge a b i low high p = record { source = a; sink = b; inverted = i; minimum = low; maximum = high; path = p }
 
 -- lists of which only 6 and 7 are looked at
 abbrev pub edge_lists : (sources sinks inverted minimums maximums starts lengths paths : List ℕ) → AssessLists
@@ -108,3 +84,23 @@ pub record ReportWithin (a : Assessment) (ids : List ℕ) (o : AssessLists) : Ty
   pub feedback_within : a.feedback ≤ length o.feedback_ids
   pub edges_within : EdgesWithin a.projected o.projected_sources o.projected_sinks o.projected_inverted o.projected_minimums o.projected_maximums
   pub labels_within : LabelsWithin (length ids) o.label_settled o.label_lows o.label_highs
+
+-- The same of the lists of a call's structs
+
+abbrev pub reason_rows : List ℕ → ReasonLists → ℕ → List ℕ
+reason_rows feedback r = reason_row feedback r.kinds.now r.components.now r.minimums.now r.maximums.now
+
+abbrev pub projected_rows : ProjectionLists → ℕ → List ℕ
+projected_rows p = projected_row (edge_lists p.sources.now p.sinks.now p.inverted.now p.minimums.now p.maximums.now p.starts.now p.lengths.now p.path_ids.now)
+
+abbrev pub label_rows : List ℕ → LabelLists → ℕ → List ℕ
+label_rows ids l = label_row ids l.settled.now l.lows.now l.highs.now
+
+abbrev pub ReasonsLent : ℕ → ReasonLists → Type 0
+ReasonsLent n r = ReasonsWithin n r.kinds.now r.components.now r.minimums.now r.maximums.now
+
+abbrev pub EdgesLent : ℕ → ProjectionLists → Type 0
+EdgesLent n p = EdgesWithin n p.sources.now p.sinks.now p.inverted.now p.minimums.now p.maximums.now
+
+abbrev pub LabelsLent : ℕ → LabelLists → Type 0
+LabelsLent n l = LabelsWithin n l.settled.now l.lows.now l.highs.now

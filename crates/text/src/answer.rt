@@ -1,15 +1,18 @@
 // From the bytes of a scene's text to the bytes that the program prints for it.
-ghost use Rattle.std.specs.Prelude.{[], ◌≤◌, length};
-ghost use Rattle.rules.specs.Scene.{component_lists, connection_lists, scene_of};
+ghost use Rattle.std.specs.Prelude.{◌≡◌, ◌≤◌, MatchResult, length};
+ghost use Rattle.rules.specs.Lent.{components_lent, connections_lent};
+ghost use Rattle.rules.specs.Scene.{scene_of};
 ghost use Rattle.rules.specs.Refusals.{scene_limits, check_scene};
-ghost use Rattle.rules.specs.Report.{report_checked, ReportCall};
-ghost use Rattle.text.specs.ReportLists.{Put};
-ghost use Rattle.text.specs.Answers.{FieldsRead};
+ghost use Rattle.rules.specs.Report.{report_checked, report_of, ReportCall};
+ghost use Rattle.text.specs.Page.{Put};
+ghost use Rattle.text.specs.Answers.{FieldsRead, Fresh, PutOrRefused, checked_lent, scene_lent};
 
-use crate::reading::{COMPONENT_ROOM, CONNECTION_ROOM, SceneRead, read_scene};
-use crate::report::{write_refusal, write_report};
+use crate::page::Page;
+use crate::reading::read_scene;
+use crate::rows::{ComponentRows, ConnectionRows};
 use assess::assess::assess_scene;
-use rules::answers::SceneAnswer;
+use rules::answers::{Refusal, RefusalKind};
+use rules::lent::{AssessmentLists, LabelLists, ProjectionLists, ReasonLists, Scene};
 use rules::limits::{MAX_COMPONENTS, MAX_CONNECTIONS, MAX_TEXT};
 
 // Room for the longest report: proved in crates/laws, ReportRoom.
@@ -20,95 +23,72 @@ const REASON_ROOM: usize = 2 * MAX_COMPONENTS + 1;
 
 const PATH_ROOM: usize = 2 * MAX_CONNECTIONS + MAX_COMPONENTS;
 
-// The report of the scene in these lists, or its refusal.
-fn report_scene(
-    out: &mut [u8],
-    ids: &[u64],
-    kinds: &[u8],
-    delays: &[u16],
-    locked: &[u8],
-    xs: &[i32],
-    ys: &[i32],
-    zs: &[i32],
-    sources: &[u64],
-    sinks: &[u64],
-    transfers: &[u8],
-) -> usize
-    requires fields_read { FieldsRead (component_lists ids.now kinds.now delays.now locked.now xs.now ys.now zs.now) (connection_lists sources.now sinks.now transfers.now) }
-    requires in_bounds { 1048576 ≤ length out.old }
-    ensures { Put (report_checked (check_scene scene_limits (component_lists ids.now kinds.now delays.now locked.now xs.now ys.now zs.now) (connection_lists sources.now sinks.now transfers.now) []) (scene_of (component_lists ids.now kinds.now delays.now locked.now xs.now ys.now zs.now) (connection_lists sources.now sinks.now transfers.now))) 0 out.old out.new result }
+// Puts the report of a scene on a page, or finds why the scene is refused.
+fn put_scene(page: &mut Page<'_>, scene: &Scene<'_>) -> Result<(), Refusal>
+    requires fields_read { FieldsRead (components_lent scene.now.components) (connections_lent scene.now.connections) }
+    requires fresh { Fresh page.old }
+    ensures { PutOrRefused (report_checked (checked_lent scene.now) (scene_lent scene.now)) page.old page.new result }
 {
-    let mut reason_kinds = [0u8; REASON_ROOM];
-    let mut reason_components = [0u64; REASON_ROOM];
-    let mut reason_blocks = [0u8; REASON_ROOM];
-    let mut reason_minimums = [0u32; REASON_ROOM];
-    let mut reason_maximums = [0u32; REASON_ROOM];
-    let mut feedback_ids = [0u64; MAX_COMPONENTS];
-    let mut marks = [0u8; MAX_COMPONENTS];
-    let mut projected_sources = [0u64; MAX_CONNECTIONS];
-    let mut projected_sinks = [0u64; MAX_CONNECTIONS];
-    let mut projected_inverted = [0u8; MAX_CONNECTIONS];
-    let mut projected_minimums = [0u32; MAX_CONNECTIONS];
-    let mut projected_maximums = [0u32; MAX_CONNECTIONS];
-    let mut projected_starts = [0usize; MAX_CONNECTIONS];
-    let mut projected_lengths = [0usize; MAX_CONNECTIONS];
-    let mut path_ids = [0u64; PATH_ROOM];
-    let mut label_settled = [0u8; MAX_COMPONENTS];
-    let mut label_lows = [0u32; MAX_COMPONENTS];
-    let mut label_highs = [0u32; MAX_COMPONENTS];
-    let answer = assess_scene(
-        ids,
-        kinds,
-        delays,
-        locked,
-        xs,
-        ys,
-        zs,
-        sources,
-        sinks,
-        transfers,
-        &mut reason_kinds,
-        &mut reason_components,
-        &mut reason_blocks,
-        &mut reason_minimums,
-        &mut reason_maximums,
-        &mut feedback_ids,
-        &mut marks,
-        &mut projected_sources,
-        &mut projected_sinks,
-        &mut projected_inverted,
-        &mut projected_minimums,
-        &mut projected_maximums,
-        &mut projected_starts,
-        &mut projected_lengths,
-        &mut path_ids,
-        &mut label_settled,
-        &mut label_lows,
-        &mut label_highs,
-    );
-    match answer {
-        SceneAnswer::Refused { number, place } => write_refusal(out, number, place),
-        SceneAnswer::Assessed(assessment) => write_report(
-            out,
-            assessment,
-            ids,
-            &reason_kinds,
-            &reason_components,
-            &reason_minimums,
-            &reason_maximums,
-            &feedback_ids,
-            &projected_sources,
-            &projected_sinks,
-            &projected_inverted,
-            &projected_minimums,
-            &projected_maximums,
-            &projected_starts,
-            &projected_lengths,
-            &path_ids,
-            &label_settled,
-            &label_lows,
-            &label_highs,
-        ),
+    let mut lists = AssessmentLists {
+        reasons: ReasonLists {
+            kinds: &mut [0; REASON_ROOM],
+            components: &mut [0; REASON_ROOM],
+            blocks: &mut [0; REASON_ROOM],
+            minimums: &mut [0; REASON_ROOM],
+            maximums: &mut [0; REASON_ROOM],
+        },
+        feedback_ids: &mut [0; MAX_COMPONENTS],
+        marks: &mut [0; MAX_COMPONENTS],
+        projected: ProjectionLists {
+            sources: &mut [0; MAX_CONNECTIONS],
+            sinks: &mut [0; MAX_CONNECTIONS],
+            inverted: &mut [0; MAX_CONNECTIONS],
+            minimums: &mut [0; MAX_CONNECTIONS],
+            maximums: &mut [0; MAX_CONNECTIONS],
+            starts: &mut [0; MAX_CONNECTIONS],
+            lengths: &mut [0; MAX_CONNECTIONS],
+            path_ids: &mut [0; PATH_ROOM],
+        },
+        labels: LabelLists {
+            settled: &mut [0; MAX_COMPONENTS],
+            lows: &mut [0; MAX_COMPONENTS],
+            highs: &mut [0; MAX_COMPONENTS],
+        },
+    };
+    let assessment = assess_scene(scene, &mut lists)?;
+    page.put_report(&assessment, scene.components.ids, &lists);
+    Ok(())
+}
+
+// Puts the report of a text on a page, or finds why the text or its scene is refused.
+fn put_text(page: &mut Page<'_>, text: &[u8]) -> Result<(), Refusal>
+    requires { Fresh page.old }
+    ensures { PutOrRefused (report_of text.now) page.old page.new result }
+{
+    if text.len() > MAX_TEXT {
+        return Err(Refusal {
+            kind: RefusalKind::TextNotInForm,
+            place: 0,
+        });
+    }
+    let mut components = ComponentRows::new();
+    let mut connections = ConnectionRows::new();
+    read_scene(text, &mut components, &mut connections)?;
+    let scene = Scene {
+        components: components.lent(),
+        connections: connections.lent(),
+    };
+    put_scene(page, &scene)
+}
+
+// Puts what the program prints for a text on a page.
+fn put_answer(page: &mut Page<'_>, text: &[u8])
+    requires { Fresh page.old }
+    ensures { Put (report_of text.now) page.old page.new }
+{
+    match put_text(page, text) {
+        Ok(()) => {}
+        Err(refusal) => page.put_refusal(refusal),
     }
 }
 
@@ -116,49 +96,7 @@ fn report_scene(
 pub fn report_text(text: &[u8], out: &mut [u8; REPORT_ROOM]) -> usize
     ensures { ReportCall text.now out.old out.new result }
 {
-    if text.len() > MAX_TEXT {
-        return write_refusal(out, 14, 0);
-    }
-    let mut ids = [0u64; COMPONENT_ROOM];
-    let mut kinds = [0u8; COMPONENT_ROOM];
-    let mut delays = [0u16; COMPONENT_ROOM];
-    let mut locked = [0u8; COMPONENT_ROOM];
-    let mut xs = [0i32; COMPONENT_ROOM];
-    let mut ys = [0i32; COMPONENT_ROOM];
-    let mut zs = [0i32; COMPONENT_ROOM];
-    let mut sources = [0u64; CONNECTION_ROOM];
-    let mut sinks = [0u64; CONNECTION_ROOM];
-    let mut transfers = [0u8; CONNECTION_ROOM];
-    let found = read_scene(
-        text,
-        &mut ids,
-        &mut kinds,
-        &mut delays,
-        &mut locked,
-        &mut xs,
-        &mut ys,
-        &mut zs,
-        &mut sources,
-        &mut sinks,
-        &mut transfers,
-    );
-    match found {
-        SceneRead::Broken { line } => write_refusal(out, 14, line),
-        SceneRead::Read {
-            components: n,
-            connections: m,
-        } => report_scene(
-            out,
-            &ids[..n],
-            &kinds[..n],
-            &delays[..n],
-            &locked[..n],
-            &xs[..n],
-            &ys[..n],
-            &zs[..n],
-            &sources[..m],
-            &sinks[..m],
-            &transfers[..m],
-        ),
-    }
+    let mut page = Page { bytes: out, end: 0 };
+    put_answer(&mut page, text);
+    page.end
 }

@@ -2,6 +2,7 @@
 #![tactic(auto)]
 
 pub mod answer; // answer.rt: what is printed for a text
-mod put; // put.rt: bytes, numbers and rows of ids, put into a list of bytes
-mod reading; // reading.rt: the lists of a scene, filled from its text
+mod page; // page.rt: bytes, numbers and rows of ids, put on a page
+mod reading; // reading.rt: a scene's rows read from its text
 mod report; // report.rt: the report and the refusal
+mod rows; // rows.rt: the rows of a scene, as they were read

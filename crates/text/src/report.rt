@@ -1,260 +1,154 @@
-// The report and the refusal, put into a list of bytes.
-ghost use Rattle.std.specs.Prelude.{[], ℕ, length};
+// The report and the refusal, put on a page.
+ghost use Rattle.std.specs.Prelude.{◌<◌, ◌+◌, ◌≡◌, length};
 ghost use Rattle.rules.specs.Bytes.{bytes};
 ghost use Rattle.rules.specs.Text.{field_line};
-ghost use Rattle.rules.specs.Assess.{assess_lists};
-ghost use Rattle.rules.specs.Report.{scope_text, pattern_text, reason_line, projected_lines, label_lines, refusal_text};
-ghost use Rattle.text.specs.ReportLists.{Room, Put, rows, reason_of, reason_row, printed_edge, edge_lists, projected_row, label_of, label_row, report_by, ReasonsWithin, EdgesWithin, LabelsWithin, ReportWithin};
+ghost use Rattle.rules.specs.Lists.{rows};
+ghost use Rattle.rules.specs.Lent.{assessment_lent};
+ghost use Rattle.rules.specs.Report.{scope_text, pattern_text, refusal_text};
+ghost use Rattle.text.specs.Page.{Room, Put};
+ghost use Rattle.text.specs.ReportLists.{reason_rows, projected_rows, label_rows, ReasonsLent, EdgesLent, LabelsLent, printed_lists, report_by, ReportWithin};
 
-use crate::put::{put_bytes, put_ids_line, put_line, put_named};
+use crate::page::Page;
 use projection::projected_path::projected_path;
-use rules::answers::{Assessment, BehaviorPattern, TemporalScope};
+use rules::answers::{Assessment, BehaviorPattern, Refusal, TemporalScope};
+use rules::lent::{AssessmentLists, LabelLists, ProjectionLists, ReasonLists};
 
-// Puts the line of the scope.
-fn put_scope(out: &mut [u8], at: usize, scope: TemporalScope) -> usize
-    requires { Room (field_line (bytes "scope=") (scope_text scope)) at out.old }
-    ensures { Put (field_line (bytes "scope=") (scope_text scope)) at out.old out.new result }
-{
-    match scope {
-        TemporalScope::SteadyStateSafe => put_bytes(out, at, b"scope=steady_state_safe\n"),
-        TemporalScope::TimingSensitive => put_bytes(out, at, b"scope=timing_sensitive\n"),
-        TemporalScope::TemporalRequired => put_bytes(out, at, b"scope=temporal_required\n"),
+impl Page<'_> {
+    // Puts the line of the scope.
+    fn put_scope(&mut self, scope: TemporalScope)
+        requires { Room (field_line (bytes "scope=") (scope_text scope)) self.old }
+        ensures { Put (field_line (bytes "scope=") (scope_text scope)) self.old self.new }
+    {
+        match scope {
+            TemporalScope::SteadyStateSafe => self.put(b"scope=steady_state_safe\n"),
+            TemporalScope::TimingSensitive => self.put(b"scope=timing_sensitive\n"),
+            TemporalScope::TemporalRequired => self.put(b"scope=temporal_required\n"),
+        }
     }
-}
 
-// Puts the line of the pattern; a candidate's ids are those of list 4.
-fn put_pattern(out: &mut [u8], at: usize, pattern: BehaviorPattern, feedback: &[u64]) -> usize
-    requires { Room (field_line (bytes "pattern=") (pattern_text feedback.now pattern)) at out.old }
-    ensures { Put (field_line (bytes "pattern=") (pattern_text feedback.now pattern)) at out.old out.new result }
-{
-    match pattern {
-        BehaviorPattern::DelayedPath => put_bytes(out, at, b"pattern=delayed_path\n"),
-        BehaviorPattern::ClockCandidate => put_ids_line(out, at, b"pattern=clock:", feedback),
-        BehaviorPattern::LatchCandidate => put_ids_line(out, at, b"pattern=latch:", feedback),
-        BehaviorPattern::Nothing => put_bytes(out, at, b"pattern=none\n"),
+    // Puts the line of the pattern; a candidate's ids are those of list 4.
+    fn put_pattern(&mut self, pattern: BehaviorPattern, feedback: &[u64])
+        requires { Room (field_line (bytes "pattern=") (pattern_text feedback.now pattern)) self.old }
+        ensures { Put (field_line (bytes "pattern=") (pattern_text feedback.now pattern)) self.old self.new }
+    {
+        match pattern {
+            BehaviorPattern::DelayedPath => self.put(b"pattern=delayed_path\n"),
+            BehaviorPattern::ClockCandidate => self.put_ids_line(b"pattern=clock:", feedback),
+            BehaviorPattern::LatchCandidate => self.put_ids_line(b"pattern=latch:", feedback),
+            BehaviorPattern::Nothing => self.put(b"pattern=none\n"),
+        }
     }
-}
 
-// Puts one reason by the code of its kind.
-fn put_reason(
-    out: &mut [u8],
-    at: usize,
-    feedback: &[u64],
-    kind: u8,
-    component: u64,
-    minimum: u32,
-    maximum: u32,
-) -> usize
-    requires { Room (reason_line feedback.now (reason_of kind component minimum maximum)) at out.old }
-    ensures { Put (reason_line feedback.now (reason_of kind component minimum maximum)) at out.old out.new result }
-{
-    if kind == 0 {
-        let at = put_named(out, at, b"reason=unequal:", component);
-        let at = put_named(out, at, b":", minimum as u64);
-        return put_line(out, at, b":", maximum as u64);
+    // Puts one reason. Its kind is a number of list 3, as the C interface has it.
+    fn put_reason(&mut self, feedback: &[u64], reasons: &ReasonLists<'_>, k: usize)
+        requires within { ReasonsLent (k + 1) reasons.now }
+        requires room { Room (reason_rows feedback.now reasons.now k) self.old }
+        ensures { Put (reason_rows feedback.now reasons.now k) self.old self.new }
+    {
+        let component = reasons.components[k];
+        match reasons.kinds[k] {
+            0 => {
+                self.put_named(b"reason=unequal:", component);
+                self.put_named(b":", reasons.minimums[k] as u64);
+                self.put_line(b":", reasons.maximums[k] as u64);
+            }
+            1 => self.put_ids_line(b"reason=feedback:", feedback),
+            2 => self.put_line(b"reason=stateful:", component),
+            _ => self.put_line(b"reason=locked:", component),
+        }
     }
-    if kind == 1 {
-        return put_ids_line(out, at, b"reason=feedback:", feedback);
+
+    // Puts the first so many reasons.
+    fn put_reasons(&mut self, count: usize, feedback: &[u64], reasons: &ReasonLists<'_>)
+        requires within { ReasonsLent count reasons.now }
+        requires room { Room (rows (reason_rows feedback.now reasons.now) count) self.old }
+        ensures { Put (rows (reason_rows feedback.now reasons.now) count) self.old self.new }
+    {
+        for k in 0..count {
+            self.put_reason(feedback, reasons, k);
+        }
     }
-    if kind == 2 {
-        return put_line(out, at, b"reason=stateful:", component);
+
+    // Puts one projected edge.
+    fn put_edge(&mut self, edges: &ProjectionLists<'_>, k: usize)
+        requires within { EdgesLent (k + 1) edges.now }
+        requires room { Room (projected_rows edges.now k) self.old }
+        ensures { Put (projected_rows edges.now k) self.old self.new }
+    {
+        self.put_line(b"source=", edges.sources[k]);
+        self.put_line(b"sink=", edges.sinks[k]);
+        self.put_line(b"inverted=", edges.inverted[k] as u64);
+        self.put_line(b"minimum=", edges.minimums[k] as u64);
+        self.put_line(b"maximum=", edges.maximums[k] as u64);
+        let path = projected_path(edges.path_ids, edges.starts, edges.lengths, k);
+        self.put_ids_line(b"path=", path);
     }
-    put_line(out, at, b"reason=locked:", component)
-}
 
-// Puts the first so many reasons.
-fn put_reasons(
-    out: &mut [u8],
-    at: usize,
-    count: usize,
-    feedback: &[u64],
-    kinds: &[u8],
-    components: &[u64],
-    minimums: &[u32],
-    maximums: &[u32],
-) -> usize
-    requires reasons_within { ReasonsWithin count kinds.now components.now minimums.now maximums.now }
-    requires room { Room (rows (reason_row feedback.now kinds.now components.now minimums.now maximums.now) count) at out.old }
-    ensures { Put (rows (reason_row feedback.now kinds.now components.now minimums.now maximums.now) count) at out.old out.new result }
-{
-    let mut end = at;
-    let mut i = 0;
-    while i < count {
-        end = put_reason(
-            out,
-            end,
-            feedback,
-            kinds[i],
-            components[i],
-            minimums[i],
-            maximums[i],
-        );
-        i += 1;
+    // Puts the first so many projected edges.
+    fn put_edges(&mut self, count: usize, edges: &ProjectionLists<'_>)
+        requires within { EdgesLent count edges.now }
+        requires room { Room (rows (projected_rows edges.now) count) self.old }
+        ensures { Put (rows (projected_rows edges.now) count) self.old self.new }
+    {
+        for k in 0..count {
+            self.put_edge(edges, k);
+        }
     }
-    end
-}
 
-// Puts one projected edge.
-fn put_projected(
-    out: &mut [u8],
-    at: usize,
-    source: u64,
-    sink: u64,
-    inverted: u8,
-    minimum: u32,
-    maximum: u32,
-    path: &[u64],
-) -> usize
-    requires { Room (projected_lines (printed_edge source sink inverted minimum maximum path.now)) at out.old }
-    ensures { Put (projected_lines (printed_edge source sink inverted minimum maximum path.now)) at out.old out.new result }
-{
-    let at = put_line(out, at, b"source=", source);
-    let at = put_line(out, at, b"sink=", sink);
-    let at = put_line(out, at, b"inverted=", inverted as u64);
-    let at = put_line(out, at, b"minimum=", minimum as u64);
-    let at = put_line(out, at, b"maximum=", maximum as u64);
-    put_ids_line(out, at, b"path=", path)
-}
-
-// Puts the first so many projected edges.
-fn put_projection(
-    out: &mut [u8],
-    at: usize,
-    count: usize,
-    sources: &[u64],
-    sinks: &[u64],
-    inverted: &[u8],
-    minimums: &[u32],
-    maximums: &[u32],
-    starts: &[usize],
-    lengths: &[usize],
-    paths: &[u64],
-) -> usize
-    requires edges_within { EdgesWithin count sources.now sinks.now inverted.now minimums.now maximums.now }
-    requires room { Room (rows (projected_row (edge_lists sources.now sinks.now inverted.now minimums.now maximums.now starts.now lengths.now paths.now)) count) at out.old }
-    ensures { Put (rows (projected_row (edge_lists sources.now sinks.now inverted.now minimums.now maximums.now starts.now lengths.now paths.now)) count) at out.old out.new result }
-{
-    let mut end = at;
-    let mut i = 0;
-    while i < count {
-        let path = projected_path(paths, starts, lengths, i);
-        end = put_projected(
-            out,
-            end,
-            sources[i],
-            sinks[i],
-            inverted[i],
-            minimums[i],
-            maximums[i],
-            path,
-        );
-        i += 1;
+    // Puts one component's label.
+    fn put_label(&mut self, ids: &[u64], labels: &LabelLists<'_>, k: usize)
+        requires within { (k < length ids.now) × LabelsLent (k + 1) labels.now }
+        requires room { Room (label_rows ids.now labels.now k) self.old }
+        ensures { Put (label_rows ids.now labels.now k) self.old self.new }
+    {
+        self.put_line(b"component=", ids[k]);
+        if labels.settled[k] == 0 {
+            return self.put(b"label=unsettled\n");
+        }
+        self.put_named(b"label=", labels.lows[k] as u64);
+        self.put_line(b",", labels.highs[k] as u64);
     }
-    end
-}
 
-// Puts one component's label.
-fn put_label(out: &mut [u8], at: usize, id: u64, settled: u8, low: u32, high: u32) -> usize
-    requires { Room (label_lines (λ (v : ℕ). label_of settled low high) id) at out.old }
-    ensures { Put (label_lines (λ (v : ℕ). label_of settled low high) id) at out.old out.new result }
-{
-    let at = put_line(out, at, b"component=", id);
-    if settled == 0 {
-        return put_bytes(out, at, b"label=unsettled\n");
+    // Puts every component's label.
+    fn put_labels(&mut self, ids: &[u64], labels: &LabelLists<'_>)
+        requires within { LabelsLent (length ids.now) labels.now }
+        requires room { Room (rows (label_rows ids.now labels.now) (length ids.now)) self.old }
+        ensures { Put (rows (label_rows ids.now labels.now) (length ids.now)) self.old self.new }
+    {
+        for k in 0..ids.len() {
+            self.put_label(ids, labels, k);
+        }
     }
-    let at = put_named(out, at, b"label=", low as u64);
-    put_line(out, at, b",", high as u64)
-}
 
-// Puts every component's label.
-fn put_labels(
-    out: &mut [u8],
-    at: usize,
-    ids: &[u64],
-    settled: &[u8],
-    lows: &[u32],
-    highs: &[u32],
-) -> usize
-    requires labels_within { LabelsWithin (length ids.now) settled.now lows.now highs.now }
-    requires room { Room (rows (label_row ids.now settled.now lows.now highs.now) (length ids.now)) at out.old }
-    ensures { Put (rows (label_row ids.now settled.now lows.now highs.now) (length ids.now)) at out.old out.new result }
-{
-    let mut end = at;
-    let mut i = 0;
-    while i < ids.len() {
-        end = put_label(out, end, ids[i], settled[i], lows[i], highs[i]);
-        i += 1;
+    // Puts the report of an assessment and of the lists that came with it.
+    pub(crate) fn put_report(
+        &mut self,
+        answer: &Assessment,
+        ids: &[u64],
+        lists: &AssessmentLists<'_>,
+    )
+        requires within { ReportWithin answer.now ids.now (printed_lists (assessment_lent lists.now)) }
+        requires room { Room (report_by answer.now ids.now (printed_lists (assessment_lent lists.now))) self.old }
+        ensures { Put (report_by answer.now ids.now (printed_lists (assessment_lent lists.now))) self.old self.new }
+    {
+        let feedback = &lists.feedback_ids[..answer.feedback as usize];
+        self.put_scope(answer.scope);
+        self.put_line(b"reasons=", answer.reasons);
+        self.put_reasons(answer.reasons as usize, feedback, &lists.reasons);
+        self.put_line(b"retained=", answer.retained);
+        self.put_line(b"compressed=", answer.compressed);
+        self.put_line(b"projected=", answer.projected);
+        self.put_edges(answer.projected as usize, &lists.projected);
+        self.put_pattern(answer.pattern, feedback);
+        self.put_labels(ids, &lists.labels);
     }
-    end
-}
 
-// Writes the report of an assessment and of the lists that came with it, and answers how long it is.
-pub(crate) fn write_report(
-    out: &mut [u8],
-    answer: Assessment,
-    ids: &[u64],
-    reason_kinds: &[u8],
-    reason_components: &[u64],
-    reason_minimums: &[u32],
-    reason_maximums: &[u32],
-    feedback_ids: &[u64],
-    projected_sources: &[u64],
-    projected_sinks: &[u64],
-    projected_inverted: &[u8],
-    projected_minimums: &[u32],
-    projected_maximums: &[u32],
-    projected_starts: &[usize],
-    projected_lengths: &[usize],
-    path_ids: &[u64],
-    label_settled: &[u8],
-    label_lows: &[u32],
-    label_highs: &[u32],
-) -> usize
-    requires report_within { ReportWithin answer ids.now (assess_lists reason_kinds.now reason_components.now [] reason_minimums.now reason_maximums.now feedback_ids.now [] projected_sources.now projected_sinks.now projected_inverted.now projected_minimums.now projected_maximums.now projected_starts.now projected_lengths.now path_ids.now label_settled.now label_lows.now label_highs.now) }
-    requires room { Room (report_by answer ids.now (assess_lists reason_kinds.now reason_components.now [] reason_minimums.now reason_maximums.now feedback_ids.now [] projected_sources.now projected_sinks.now projected_inverted.now projected_minimums.now projected_maximums.now projected_starts.now projected_lengths.now path_ids.now label_settled.now label_lows.now label_highs.now)) 0 out.old }
-    ensures { Put (report_by answer ids.now (assess_lists reason_kinds.now reason_components.now [] reason_minimums.now reason_maximums.now feedback_ids.now [] projected_sources.now projected_sinks.now projected_inverted.now projected_minimums.now projected_maximums.now projected_starts.now projected_lengths.now path_ids.now label_settled.now label_lows.now label_highs.now)) 0 out.old out.new result }
-{
-    let scope = answer.scope;
-    let pattern = answer.pattern;
-    let listed = answer.feedback as usize;
-    let feedback = &feedback_ids[..listed];
-    let at = put_scope(out, 0, scope);
-    let at = put_line(out, at, b"reasons=", answer.reasons);
-    let at = put_reasons(
-        out,
-        at,
-        answer.reasons as usize,
-        feedback,
-        reason_kinds,
-        reason_components,
-        reason_minimums,
-        reason_maximums,
-    );
-    let at = put_line(out, at, b"retained=", answer.retained);
-    let at = put_line(out, at, b"compressed=", answer.compressed);
-    let at = put_line(out, at, b"projected=", answer.projected);
-    let at = put_projection(
-        out,
-        at,
-        answer.projected as usize,
-        projected_sources,
-        projected_sinks,
-        projected_inverted,
-        projected_minimums,
-        projected_maximums,
-        projected_starts,
-        projected_lengths,
-        path_ids,
-    );
-    let at = put_pattern(out, at, pattern, feedback);
-    put_labels(out, at, ids, label_settled, label_lows, label_highs)
-}
-
-// Writes a refusal, and answers how long it is.
-pub(crate) fn write_refusal(out: &mut [u8], number: u32, place: u64) -> usize
-    requires { Room (refusal_text number place) 0 out.old }
-    ensures { Put (refusal_text number place) 0 out.old out.new result }
-{
-    let at = put_line(out, 0, b"refusal=", number as u64);
-    put_line(out, at, b"place=", place)
+    // Puts a refusal.
+    pub(crate) fn put_refusal(&mut self, refusal: Refusal)
+        requires { Room (refusal_text refusal) self.old }
+        ensures { Put (refusal_text refusal) self.old self.new }
+    {
+        self.put_line(b"refusal=", u32::from(refusal.kind) as u64);
+        self.put_line(b"place=", refusal.place);
+    }
 }

@@ -1,10 +1,13 @@
--- The tests of a trace, step by step:
-pub mod RowSteps
-pub mod CheckSteps
--- its pulses, their fields and verdicts:
-pub mod PulseSteps
-pub mod FieldSteps
-pub mod ContractSteps
-pub mod JudgeSteps
+-- The tests of events and contracts, row by row:
+pub mod Tests
+-- the contract of a component:
+pub mod Registered
+-- the finding of a place:
+pub mod Judging
+-- places of the row, findings and tallies, one after the other:
+pub mod Places
+pub mod Listing
+pub mod Tallies
+pub mod Writing
 -- the whole call:
-pub mod TraceSteps
+pub mod Whole

@@ -1,3 +1,5 @@
--- What the passes over a row of event positions need and give:
+-- The tests of a trace, in their steps:
+pub mod Tested
+-- the pulses of a row of events, and what is judged of them:
 pub mod Row
 pub mod Judged

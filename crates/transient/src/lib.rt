@@ -2,9 +2,9 @@
 #![tactic(auto)]
 
 pub mod trace; // trace.rt: the call that judges a trace
-mod check; // check.rt: the tests of a trace
+pub mod aligned; // aligned.rt: a trace whose lists are as long as one another
 mod rows; // rows.rt: the tests of events and contracts, one by one
-mod pulses; // pulses.rt: the pulses of a trace
-mod fields; // fields.rt: the fields of list 9 that are the pulses' own
-mod contracts; // contracts.rt: the intent that is registered for a component
-mod judging; // judging.rt: verdicts, rationales and tallies of the pulses
+mod accepted; // accepted.rt: a trace that the tests accepted
+mod check; // check.rt: the tests of a trace
+mod pulses; // pulses.rt: the pulses of a row of events
+mod findings; // findings.rt: the entries of list 9

@@ -1,2 +1,2 @@
--- What is given of a contract, a pulse and an event:
-pub mod Given
+-- The structs of this crate as the rules speak of them:
+pub mod Read

@@ -1,16 +1,13 @@
--- The lengths are held against the first, in order. Assumes nothing.
-use native.Mathlib.Omega.{arith}
-use Rattle.lengths.proofs.Alike.{alike-more, alike_all, differ-at}
+-- The lengths after the first are held against it, in order. Assumes nothing.
+use Rattle.std.proofs.Common.{rules, tests, ◌∙◌, ℕ, Bool, not, nat_eq, get_or, drop}
+use Rattle.std.proofs.lemmas.List.{take_rest}
+use Rattle.std.proofs.lemmas.Iterator.{YieldsList-from_slice}
+use Rattle.std.proofs.lemmas.Iterator.Search.{any_from_yields_List}
+use Rattle.lengths.proofs.Iterated.{differ_from_any}
 use Rattle.lengths.proofs.lengths_differ.Goals as goal
 
-pub loop-i-init : goal.loop-i-init
-loop-i-init c = (λ j h. absurd (omega arith), omega arith)
-
-pub returns-then-lengths-i : goal.returns-then-lengths-i
-returns-then-lengths-i c = differ-at c.args.lengths.now c.loop-i.i (omega arith) c.if-lengths-i.true
-
-pub loop-i-preserved : goal.loop-i-preserved
-loop-i-preserved c = (alike-more c.loop-i.i c.args.lengths.now c.loop-i.invariant.0 c.if-lengths-i.false, omega arith)
-
-pub returns : goal.returns
-returns c = alike_all c.args.lengths.now (λ j h. c.loop-i.invariant.0 j (omega (arith, h)))
+pub returns-in-len1-up : goal.returns-in-len1-up
+returns-in-len1-up c =
+    let l = c.args.lengths.now in
+    let test : ℕ → Bool = λ n. not (nat_eq n (get_or l 0 0)) in
+    any_from_yields_List test _ _ _ c.any.ensures.ran (YieldsList-from_slice (drop 1 l) (c.iter.ensures.rest ∙ take_rest l 1)) (λ x b q k. search (rules, tests)) ∙ differ_from_any l c.in-len1-up.len_at_least

@@ -1,17 +1,10 @@
--- The numbers of the records before the index are in the lists. Assumes nothing.
-use Prim.Native.Nat.{◌-◌, ◌≤◌}
-use lib.ListN.{get_or}
-use Rattle.rules.proofs.Made.{Made}
-use Rattle.events.proofs.Reading.{none}
+-- The records before the i-th are read. Assumes nothing.
+use Rattle.std.proofs.Common.{◌≡◌, map, take}
 use Rattle.events.proofs.records.read_events.Given as goal
 
 abbrev pub invariant-loop-i : goal.invariant-loop-i
 invariant-loop-i l = record {
-  small : l.i ≤ l.kept;
-  ticks : Made (λ k. (get_or l.events k none).tick) 0 l.initial.ticks l.ticks l.i;
-  components : Made (λ k. (get_or l.events k none).component) 0 l.initial.components l.components l.i;
-  powered : Made (λ k. (get_or l.events k none).powered) 0 l.initial.powered l.powered l.i;
+  ticks : take l.i l.ticks ≡ map (λ e. e.tick) (take l.i l.events);
+  components : take l.i l.components ≡ map (λ e. e.component) (take l.i l.events);
+  powered : take l.i l.powered ≡ map (λ e. e.powered) (take l.i l.events);
 }
-
-abbrev pub decreases-loop-i : goal.decreases-loop-i
-decreases-loop-i l = l.kept - l.i

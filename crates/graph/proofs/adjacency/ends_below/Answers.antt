@@ -1,14 +1,11 @@
--- `ends_below` tests the ends one by one. Assumes nothing.
-use native.Mathlib.Omega.{arith}
-use borrow.Author.Count.{below_more}
-use Rattle.graph.proofs.Fitting.{ends-all, ends-one}
+-- `ends_below` tests every end. Assumes nothing.
+use Rattle.std.proofs.Common.{rules, tests, ◌∙◌, nat_lt}
+use Rattle.std.proofs.lemmas.Iterator.{YieldsList-from_slice}
+use Rattle.std.proofs.lemmas.Iterator.Search.{all_from_yields_List}
+use Rattle.graph.proofs.Fitting.{ends-listed}
 use Rattle.graph.proofs.adjacency.ends_below.Goals as goal
 
-pub returns-then-n-ends : goal.returns-then-n-ends
-returns-then-n-ends c = ends-one _ _ _ c.loop-e-test.true c.if-n-ends.true
-
-pub loop-e-preserved : goal.loop-e-preserved
-loop-e-preserved c = (omega arith, below_more _ _ c.loop-e.invariant.1 c.if-n-ends.false)
-
 pub returns : goal.returns
-returns c = ends-all _ _ (λ k h. c.loop-e.invariant.1 k (omega arith))
+returns c =
+    let a = c.args in
+    all_from_yields_List (λ end. nat_lt end a.n) _ _ _ c.all.ensures.ran (YieldsList-from_slice a.ends.now c.iter.ensures.rest) (λ x b q k. search (rules, tests)) ∙ ends-listed a.n a.ends.now

@@ -9,7 +9,7 @@ abbrev pub decreases-collect : goal.decreases-collect
 decreases-collect l = unseen l.marks.now
 
 abbrev pub invariant-loop-e : goal.invariant-loop-e
-invariant-loop-e l = Gathering l.head l.next l.sinks l.initial.marks l.initial.group l.root l.initial.e l.marks l.group l.e
+invariant-loop-e l = Gathering l.links.head.now l.links.next.now l.links.ends.now l.initial.marks l.initial.group l.root l.initial.e l.marks l.group l.e
 
 abbrev pub decreases-loop-e : goal.decreases-loop-e
-decreases-loop-e l = length l.next - l.e
+decreases-loop-e l = length l.links.next.now - l.e

@@ -12,7 +12,7 @@ abbrev pub decreases-walk : goal.decreases-walk
 decreases-walk l = 2 * unseen l.marks.now + 1
 
 abbrev pub invariant-walk-loop-e : goal.invariant-walk-loop-e
-invariant-walk-loop-e l = Walking l.head l.next l.sinks l.initial.marks l.initial.order l.count l.first l.marks l.order l.done l.e
+invariant-walk-loop-e l = Walking l.links.head.now l.links.next.now l.links.ends.now l.initial.marks l.initial.order l.count l.first l.marks l.order l.done l.e
 
 abbrev pub decreases-walk-loop-e : goal.decreases-walk-loop-e
-decreases-walk-loop-e l = length l.next - l.e
+decreases-walk-loop-e l = length l.links.next.now - l.e

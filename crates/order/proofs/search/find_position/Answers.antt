@@ -1,28 +1,29 @@
 -- `find_position` looks whether the first place whose key is not below has the key. Assumes nothing.
-use native.Mathlib.Omega.{arith}
-use Rattle.order.proofs.Searching.{searched-at, searched-missing}
+use Rattle.std.proofs.Common.{rules, tests, arith, ap, ◌∙◌}
+use Rattle.rules.specs.Ordered.{key_at}
+use Rattle.order.proofs.Searching.{split-point, searched-missing, searched-at}
 use Rattle.order.proofs.search.find_position.Goals as goal
 
-pub returns-then-keys-position : goal.returns-then-keys-position
-returns-then-keys-position c =
+pub returns-in_err-position : goal.returns-in_err-position
+returns-in_err-position c =
     let a = c.args in
-    let r = c.first_not_below-place in
-    searched-at a.keys.now a.order.now a.key r.result r.ensures c.if-place-order.true c.if-position-keys.true (omega (arith, c.if-keys-position.true))
+    let p = c.partition_point-place in
+    let s = split-point a.keys.now a.order.now a.key p.result p.ensures.bound p.ensures.partitioned (λ a r f q. search (rules, tests)) in
+    rw c.from_residual.ensures (searched-missing a.keys.now a.order.now a.key p.result s (λ h b e. omega (arith, c.in_err-position.ensures.lookup.3)))
 
-pub returns-else-keys-position : goal.returns-else-keys-position
-returns-else-keys-position c =
+pub returns-in_err-found : goal.returns-in_err-found
+returns-in_err-found c =
     let a = c.args in
-    let r = c.first_not_below-place in
-    searched-missing a.keys.now a.order.now a.key r.result r.ensures (λ h b e. omega (arith, c.if-keys-position.false))
+    let p = c.partition_point-place in
+    let s = split-point a.keys.now a.order.now a.key p.result p.ensures.bound p.ensures.partitioned (λ a r f q. search (rules, tests)) in
+    let at = c.in_ok-position.ensures.lookup.3.1 0 in
+    rw c.from_residual-in_err-found.ensures (searched-missing a.keys.now a.order.now a.key p.result s (λ h b e. omega (arith, c.in_err-found.ensures.lookup.3, at)))
 
-pub returns-else-position-keys : goal.returns-else-position-keys
-returns-else-position-keys c =
+pub returns : goal.returns
+returns c =
     let a = c.args in
-    let r = c.first_not_below-place in
-    searched-missing a.keys.now a.order.now a.key r.result r.ensures (λ h b e. omega (arith, c.if-position-keys.false))
-
-pub returns-else-place-order : goal.returns-else-place-order
-returns-else-place-order c =
-    let a = c.args in
-    let r = c.first_not_below-place in
-    searched-missing a.keys.now a.order.now a.key r.result r.ensures (λ h b e. omega (arith, c.if-place-order.false))
+    let p = c.partition_point-place in
+    let s = split-point a.keys.now a.order.now a.key p.result p.ensures.bound p.ensures.partitioned (λ a r f q. search (rules, tests)) in
+    let at = c.in_ok-position.ensures.lookup.3 in
+    let found = c.in_ok-found.ensures.lookup.3 in
+    rw (c.then_some.ensures, at.1 0) (searched-at a.keys.now a.order.now a.key p.result s at.0 (omega (arith, found.0, at.1 0)) c.in_ok-found.field-0.now (found.1 0 ∙ ap (key_at a.keys.now) (at.1 0)))

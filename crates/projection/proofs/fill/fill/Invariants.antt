@@ -1,12 +1,13 @@
 -- `fill` writes a projected edge and its path for each first edge. Assumes nothing.
-use Prim.Native.Nat.{◌-◌, ◌≤◌}
-use lib.ListN.{length, take}
-use Rattle.projection.specs.Projecting.{projected_lists}
-use Rattle.projection.specs.Walking.{net, Filled}
+use Rattle.std.proofs.Common.{take}
+use Rattle.rules.specs.Lent.{SameProjection}
+use Rattle.projection.specs.Lent.{graph_lent, projection_lent}
+use Rattle.projection.specs.Walking.{Filled}
+use Rattle.projection.proofs.FillSteps.{Sizes}
 use Rattle.projection.proofs.fill.fill.Given as goal
 
 abbrev pub invariant-loop-k : goal.invariant-loop-k
-invariant-loop-k l = (l.k ≤ length l.firsts) × Filled (net l.sources l.sinks l.marks l.ids l.low l.high l.inverts) (take l.k l.firsts) (projected_lists l.initial.projected_sources l.initial.projected_sinks l.initial.projected_inverted l.initial.projected_minimums l.initial.projected_maximums l.initial.projected_starts l.initial.projected_lengths l.initial.path_ids) (projected_lists l.projected_sources l.projected_sinks l.projected_inverted l.projected_minimums l.projected_maximums l.projected_starts l.projected_lengths l.path_ids) l.end
-
-abbrev pub decreases-loop-k : goal.decreases-loop-k
-decreases-loop-k l = length l.firsts - l.k
+invariant-loop-k l =
+    SameProjection l.initial.projected l.projected
+    × Filled (graph_lent l.marked l.edges) (take l.k l.firsts) (projection_lent l.initial.projected) (projection_lent l.projected) l.end
+    × Sizes (projection_lent l.initial.projected) (projection_lent l.projected)

@@ -1,14 +1,11 @@
--- `each_at_least` tests the lengths one by one. Assumes nothing.
-use native.Mathlib.Omega.{arith}
-use borrow.Author.Count.{below_more}
-use Rattle.projection.proofs.FitSteps.{at-least-all, at-least-not}
+-- `each_at_least` tests every length. Assumes nothing.
+use Rattle.std.proofs.Common.{rules, tests, ◌∙◌, nat_le}
+use Rattle.std.proofs.lemmas.Iterator.{YieldsList-from_slice}
+use Rattle.std.proofs.lemmas.Iterator.Search.{all_from_yields_List}
+use Rattle.projection.proofs.FitSteps.{all-at-least}
 use Rattle.projection.proofs.fits.each_at_least.Goals as goal
 
-pub returns-then-lengths-i : goal.returns-then-lengths-i
-returns-then-lengths-i c = at-least-not _ _ _ c.loop-i-test.true c.if-lengths-i.true
-
-pub loop-i-preserved : goal.loop-i-preserved
-loop-i-preserved c = (omega arith, below_more _ _ c.loop-i.invariant.1 c.if-lengths-i.false)
-
 pub returns : goal.returns
-returns c = at-least-all _ _ (λ k h. c.loop-i.invariant.1 k (omega arith))
+returns c =
+    let a = c.args in
+    all_from_yields_List (λ k. nat_le a.n k) _ _ _ c.all.ensures.ran (YieldsList-from_slice a.lengths.now c.iter.ensures.rest) (λ x b q k. search (rules, tests)) ∙ all-at-least a.n a.lengths.now

@@ -1,14 +1,11 @@
--- `each_is` tests the lengths one by one. Assumes nothing.
-use native.Mathlib.Omega.{arith}
-use borrow.Author.Count.{below_more}
-use Rattle.projection.proofs.FitSteps.{is_all, is-not}
+-- `each_is` tests every length. Assumes nothing.
+use Rattle.std.proofs.Common.{rules, tests, ◌∙◌, nat_eq}
+use Rattle.std.proofs.lemmas.Iterator.{YieldsList-from_slice}
+use Rattle.std.proofs.lemmas.Iterator.Search.{all_from_yields_List}
+use Rattle.projection.proofs.FitSteps.{all-is}
 use Rattle.projection.proofs.fits.each_is.Goals as goal
 
-pub returns-then-lengths-i : goal.returns-then-lengths-i
-returns-then-lengths-i c = is-not _ _ _ c.loop-i-test.true c.if-lengths-i.true
-
-pub loop-i-preserved : goal.loop-i-preserved
-loop-i-preserved c = (omega arith, below_more _ _ c.loop-i.invariant.1 c.if-lengths-i.false)
-
 pub returns : goal.returns
-returns c = is_all _ _ (λ k h. c.loop-i.invariant.1 k (omega arith))
+returns c =
+    let a = c.args in
+    all_from_yields_List (λ k. nat_eq k a.n) _ _ _ c.all.ensures.ran (YieldsList-from_slice a.lengths.now c.iter.ensures.rest) (λ x b q k. search (rules, tests)) ∙ all-is a.n a.lengths.now

@@ -1,20 +1,15 @@
 -- Assumes nothing.
-use mathlib.Core.Path.{◌≡◌, refl, subst, ◌∙◌}
 use native.Mathlib.Omega.{arith}
-use lib.ListN.{length-set}
-use Rattle.rules.specs.Lists.{written}
-use Rattle.reasons.specs.Sums.{cleared_sum}
-use Rattle.reasons.proofs.SumSteps.{cleared, made-start, clear-more}
+use Rattle.reasons.specs.Lent.{labels_lent}
+use Rattle.reasons.proofs.SumSteps.{cleared-none, cleared-more, cleared-same}
 use Rattle.reasons.proofs.labels.clear_unsettled.Goals as goal
+use Rattle.reasons.proofs.labels.clear_unsettled.Goals.{then-labels-v-eq0, else-labels-v-eq0}
 
-pub loop-i-init : goal.loop-i-init
-loop-i-init c = (made-start (cleared_sum c.args.settled.now c.args.sums.now) c.args.sums.now, omega arith, refl)
+pub loop-v-init : goal.loop-v-init
+loop-v-init c = record { same = search; cleared = cleared-none (labels_lent c.args.labels.now) }
 
-pub loop-i-preserved : goal.loop-i-preserved
-loop-i-preserved c = (clear-more c.args.settled.now c.args.sums.now c.loop-i.i c.loop-i.sums _ (omega (arith, c.requires.1)) c.loop-i.invariant.0 c.settled_sum.ensures, omega arith, length-set c.loop-i.sums c.loop-i.i c.settled_sum.result ∙ c.loop-i.invariant.2)
-
-pub shape_of-sums : goal.shape_of-sums
-shape_of-sums c = c.loop-i.invariant.2
-
-pub returns : goal.returns
-returns c = subst (λ m. c.loop-i.sums ≡ written c.args.sums.now (cleared c.args.settled.now c.args.sums.now m)) (omega arith) c.loop-i.invariant.0
+pub loop-v-preserved : goal.loop-v-preserved
+loop-v-preserved c = elim c.if-labels-v-eq0.branch [
+  | then-labels-v-eq0 w ↦ rw w.labels-is (record { same = record { settled = c.loop-v.invariant.same.settled; lows = c.loop-v.invariant.same.lows; highs = c.loop-v.invariant.same.highs }; cleared = cleared-more (labels_lent c.args.labels.now) c.loop-v.v (labels_lent c.loop-v.labels) (omega arith) (omega arith) c.loop-v.invariant.cleared w.if-labels-v-eq0.true })
+  | else-labels-v-eq0 w ↦ rw w.labels-is (record { same = c.loop-v.invariant.same; cleared = cleared-same (labels_lent c.args.labels.now) c.loop-v.v (labels_lent c.loop-v.labels) (omega arith) (omega arith) c.loop-v.invariant.cleared w.if-labels-v-eq0.false })
+]

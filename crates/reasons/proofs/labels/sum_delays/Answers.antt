@@ -1,12 +1,14 @@
 -- Assumes nothing.
-use mathlib.Core.Path.{refl, sym}
-use lib.ListN.{take}
-use lib.Seq.{length-take-le}
-use Rattle.reasons.proofs.SumSteps.{sums-found}
+use mathlib.Core.Path.{refl}
+use native.Mathlib.Omega.{arith}
+use Rattle.reasons.specs.Lent.{labels_lent}
+use Rattle.reasons.proofs.SumSteps.{sums-some, sums-found}
 use Rattle.reasons.proofs.labels.sum_delays.Goals as goal
 
-pub slice_bounds-front-end : goal.slice_bounds-front-end
-slice_bounds-front-end c = sym (length-take-le c.args.n c.args.delays.now c.requires.1)
+pub unwrap-requires : goal.unwrap-requires
+unwrap-requires c = grind (arith, sums-some c.args.delays.now c.args.edges.now.sources.now c.args.edges.now.sinks.now c.args.order.now (labels_lent c.args.labels.now) c.args.unequal.now c.requires refl refl refl refl refl c.reconvergent_delay_reasons.ensures.reasons)
 
-pub returns : goal.returns
-returns c = sums-found (take c.args.n c.args.delays.now) c.args.n (length-take-le c.args.n c.args.delays.now c.requires.1) c.args.starts.now c.args.stops.now c.args.order.now c.args.settled.now c.args.smallest.now c.args.largest.now c.args.unequal.now c.requires.0 refl refl refl refl refl c.reconvergent_delay_reasons-sums.ensures
+pub returns-clause-summed : goal.returns-clause-summed
+returns-clause-summed c =
+    let p = sums-found c.args.delays.now c.args.edges.now.sources.now c.args.edges.now.sinks.now c.args.order.now (labels_lent c.args.labels.now) c.args.unequal.now c.requires refl refl refl refl refl c.reconvergent_delay_reasons.ensures.reasons c.unwrap.ensures in
+    grind (arith, p)

@@ -1,18 +1,23 @@
 -- `start` fills the lists one after another. Assumes nothing.
-use Prim.Native.Nat.{ℕ}
-use mathlib.Core.Path.{sym, ap, ◌∙◌}
+use mathlib.Core.Path.{refl}
 use native.Mathlib.Omega.{arith}
-use lib.ListN.{replicate}
+use Rattle.reconvergence.proofs.Starting.{zeroed}
 use Rattle.reconvergence.proofs.start.start.Goals as goal
 
-pub count_incoming-requires : goal.count_incoming-requires
-count_incoming-requires c = (λ k h. omega (arith, c.requires.0 k h, c.set_all.auto.entries), c.set_all.ensures ∙ ap (λ (n : ℕ). replicate {A = ℕ} n 0) (sym c.set_all.auto.entries))
+pub returns-clause-started : goal.returns-clause-started
+returns-clause-started c = record {
+  counted = rw (c.list_ready.ensures.counts) c.count_ends.ensures;
+  incomings = rw (c.list_ready.ensures.counts) (omega (arith, c.requires.1.incomings, c.count_ends.auto.counts));
+  smallests = (zeroed _ _ _ c.clear.ensures).0;
+  largests = (zeroed _ _ _ c.clear-2.ensures).0;
+  waiting = c.list_ready.ensures.ready;
+}
 
-pub returns : goal.returns
-returns c = record {
-  counted = c.count_incoming.ensures;
-  lefts = c.list_ready.ensures.0;
-  smallests = c.clear_sums.ensures ∙ ap (λ (n : ℕ). replicate {A = ℕ} n 0) (c.requires.1.smallests ∙ sym (c.count_incoming.auto.incoming ∙ c.set_all.auto.entries));
-  largests = c.clear_sums-2.ensures ∙ ap (λ (n : ℕ). replicate {A = ℕ} n 0) (c.requires.1.largests ∙ sym (c.count_incoming.auto.incoming ∙ c.set_all.auto.entries));
-  waiting = c.list_ready.ensures.1;
+pub returns-clause-kept : goal.returns-clause-kept
+returns-clause-kept c = record {
+  settled = refl;
+  smallest = (zeroed _ _ _ c.clear.ensures).1;
+  largest = (zeroed _ _ _ c.clear-2.ensures).1;
+  head = c.list_ready.ensures.heads;
+  next = c.list_ready.ensures.links;
 }

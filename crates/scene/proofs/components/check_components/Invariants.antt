@@ -1,11 +1,8 @@
--- Assumes nothing.
-use Prim.Native.Nat.{◌-◌, ◌≤◌}
-use lib.ListN.{length}
+-- The components are gone through in order. Assumes nothing.
+use Prim.Native.Nat.{◌≤◌}
+use Rattle.rules.specs.Lent.{components_lent}
 use Rattle.scene.proofs.ComponentSteps.{AcceptedBelow}
 use Rattle.scene.proofs.components.check_components.Given as goal
 
 abbrev pub invariant-loop-i : goal.invariant-loop-i
-invariant-loop-i l = AcceptedBelow l.ids l.kinds l.delays l.locked l.i × (l.i ≤ length l.ids) × (l.i ≤ l.repeat)
-
-abbrev pub decreases-loop-i : goal.decreases-loop-i
-decreases-loop-i l = length l.ids - l.i
+invariant-loop-i l = AcceptedBelow (components_lent l.components) l.i × (l.i ≤ l.repeat)

@@ -1,26 +1,27 @@
--- Assumes nothing.
+-- The ordered positions are gone through by neighbours. Assumes nothing.
 use native.Mathlib.Omega.{arith}
-use mathlib.Core.Path.{sym, ap, subst}
-use Prim.Native.Nat.{◌-◌, ◌<◌}
-use lib.ListN.{length, get_or}
+use mathlib.Core.Path.{ap}
+use Prim.Native.Nat.{◌-◌}
+use lib.ListN.{length}
 use Rattle.rules.proofs.Ordering.{ordered-length, ordered-below}
-use Rattle.scene.proofs.Repeats.{repeat-start, repeat-more, repeat-end}
+use Rattle.scene.proofs.Repeats.{repeat-more, repeat-end}
 use Rattle.scene.proofs.components.first_repeat.Goals as goal
 
-pub loop-k-init : goal.loop-k-init
-loop-k-init c = (repeat-start c.args.ids.now, omega arith, omega (arith, ap length c.requires, ordered-length c.args.ids.now))
-
-pub offset_bounds-order-k : goal.offset_bounds-order-k
-offset_bounds-order-k c = omega (arith, c.loop-k.invariant.1)
-
-pub bounds-order-k : goal.bounds-order-k
-bounds-order-k c = omega (arith, c.loop-k.invariant.1)
-
 pub earlier_repeat-first-requires : goal.earlier_repeat-first-requires
-earlier_repeat-first-requires c = (subst (λ o. get_or o (c.loop-k.k - 1) 0 < length c.args.ids.now) (sym c.requires) (ordered-below c.args.ids.now (c.loop-k.k - 1) (omega (arith, c.loop-k.invariant.1, c.loop-k.invariant.2))), subst (λ o. get_or o c.loop-k.k 0 < length c.args.ids.now) (sym c.requires) (ordered-below c.args.ids.now c.loop-k.k (omega (arith, c.loop-k.invariant.2))))
+earlier_repeat-first-requires c =
+    let ids = c.args.ids.now in
+    let same = ap length c.requires in
+    let all = ordered-length ids in
+    rw c.requires (ordered-below ids (c.loop-k.k - 1) (omega arith), ordered-below ids c.loop-k.k (omega arith))
 
 pub loop-k-preserved : goal.loop-k-preserved
-loop-k-preserved c = (rw (c.earlier_repeat-first.ensures, c.requires) (repeat-more c.args.ids.now c.loop-k.k c.loop-k.first c.loop-k.invariant.1 (omega (arith, c.loop-k.invariant.2)) c.loop-k.invariant.0), omega arith, c.loop-k.invariant.2)
+loop-k-preserved c =
+    let same = ap length c.requires in
+    let all = ordered-length c.args.ids.now in
+    rw (c.earlier_repeat-first.ensures, c.requires) (repeat-more _ _ _ c.loop-k.auto.k (omega arith) c.loop-k.invariant)
 
 pub returns : goal.returns
-returns c = repeat-end c.args.ids.now c.loop-k.k c.loop-k.first (omega (arith, c.loop-k.invariant.2)) c.loop-k.invariant.0
+returns c =
+    let same = ap length c.requires in
+    let all = ordered-length c.args.ids.now in
+    repeat-end _ _ _ (omega arith) c.loop-k.invariant

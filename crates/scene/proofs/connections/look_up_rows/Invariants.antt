@@ -1,12 +1,7 @@
--- Assumes nothing.
-use mathlib.Core.Path.{◌≡◌}
-use Prim.Native.Nat.{◌-◌, ◌≤◌}
-use lib.ListN.{length}
+-- The connections are gone through in order. Assumes nothing.
+use Rattle.rules.specs.Lent.{connections_lent}
 use Rattle.scene.proofs.ConnectionSteps.{EndsBelow}
 use Rattle.scene.proofs.connections.look_up_rows.Given as goal
 
 abbrev pub invariant-loop-j : goal.invariant-loop-j
-invariant-loop-j l = EndsBelow l.ids l.sources l.sinks l.transfers l.j l.e l.starts l.stops × (l.j ≤ length l.sources) × (length l.starts ≡ length l.initial.starts) × (length l.stops ≡ length l.initial.stops)
-
-abbrev pub decreases-loop-j : goal.decreases-loop-j
-decreases-loop-j l = length l.sources - l.j
+invariant-loop-j l = EndsBelow l.index.ids.now (connections_lent l.connections) l.j l.edges l.starts l.stops

@@ -1,22 +1,14 @@
--- Assumes nothing.
-use native.Mathlib.Omega.{arith}
-use mathlib.Core.Path.{sym}
-use lib.ListN.{length}
-use lib.Seq.{length-take-le}
+-- The components are tested, then the connections. Assumes nothing.
+use Rattle.std.proofs.Common.{rules}
+use mathlib.Core.Path.{◌≡◌}
+use Rattle.std.specs.Prelude.{Err}
 use Rattle.scene.proofs.IndexSteps.{components-refused, ends-indexed}
 use Rattle.scene.proofs.index.index_rows.Goals as goal
 
-pub slice_bounds-first_repeat-end-2 : goal.slice_bounds-first_repeat-end-2
-slice_bounds-first_repeat-end-2 c = sym (length-take-le (length c.args.ids.now) c.order_ids.new.order (omega (arith, c.requires.0.components_few, c.requires.1.order_room, c.order_ids.auto.order)))
+pub returns-in_err-check_components : goal.returns-in_err-check_components
+returns-in_err-check_components c =
+    let answer : c.from_residual.result ≡ Err c.in_err-check_components.field-0.0 = search rules in
+    rw answer (components-refused _ _ _ _ c.in_err-check_components.ensures)
 
-pub slice_bounds-look_up_ends-end-in-Accepted : goal.slice_bounds-look_up_ends-end-in-Accepted
-slice_bounds-look_up_ends-end-in-Accepted c = sym (length-take-le (length c.args.ids.now) c.order_ids.new.order (omega (arith, c.requires.0.components_few, c.requires.1.order_room, c.order_ids.auto.order)))
-
-pub look_up_ends-requires : goal.look_up_ends-requires
-look_up_ends-requires c = record { sorted = c.order_ids.ensures; nodes_few = c.requires.0.components_few; sinks_length = c.requires.0.sinks_length; transfers_length = c.requires.0.transfers_length; starts_room = omega (arith, c.requires.0.connections_few, c.requires.1.starts_room); stops_room = omega (arith, c.requires.0.connections_few, c.requires.1.stops_room) }
-
-pub returns-in-Refused : goal.returns-in-Refused
-returns-in-Refused c = components-refused _ _ _ _ _ _ _ _ _ _ (cc c.check_components-components.ensures)
-
-pub returns-in-Accepted : goal.returns-in-Accepted
-returns-in-Accepted c = ends-indexed _ _ _ _ _ _ _ _ _ _ (cc c.check_components-components.ensures) c.order_ids.ensures c.look_up_ends.ensures
+pub returns : goal.returns
+returns c = ends-indexed _ _ _ _ _ _ c.in_ok-check_components.ensures c.order_ids.ensures c.look_up_ends.ensures

@@ -1,22 +1,25 @@
--- Assumes nothing.
+-- The output lists are gone through in order. Assumes nothing.
 use native.Mathlib.Omega.{arith}
-use mathlib.Core.Path.{refl, sym, subst, ◌∙◌}
-use Prim.Native.Nat.{◌<◌}
-use lib.ListN.{get_or}
-use Rattle.scene.proofs.Room.{room-more, room-short, room-past, room-end}
+use mathlib.Core.List.{[], ◌∷◌}
+use mathlib.Core.Path.{sym, ap, ◌∙◌}
+use lib.ListN.{length-append}
+use Rattle.rules.specs.Refusals.{need_of, refused}
+use Rattle.rules.specs.declared.answers.RefusalKind.TheVariants.{ListTooShort}
+use Rattle.scene.proofs.Room.{list-turn, list-end, room-more, room-short, room-end}
 use Rattle.scene.proofs.sizes.check_room.Goals as goal
 
-pub loop-k-init : goal.loop-k-init
-loop-k-init c = (refl, omega arith)
+pub returns-then-length-need_of : goal.returns-then-length-need_of
+returns-then-length-need_of c =
+    let t = list-turn c.args.first c.args.room.now _ (cc) (cc) _ _ c.loop-list.yielded_by _ c.next.new.self c.next.ensures.steps _ _ c.in-Some.is in
+    let need = c.need_of.ensures ∙ ap (need_of c.args.n c.args.m) t.1 in
+    c.refused.ensures ∙ ap (refused ListTooShort) t.1 ∙ room-short _ _ _ _ _ t.0 (omega (arith, t.2, need)) ∙ sym c.loop-list.invariant
 
-pub returns-then-list-gt8 : goal.returns-then-list-gt8
-returns-then-list-gt8 c = room-past c.args.n c.args.m c.loop-k.list c.loop-k.k c.args.room.now c.if-list-gt8.true ∙ sym c.loop-k.invariant.0
-
-pub returns-then-room-k : goal.returns-then-room-k
-returns-then-room-k c = room-short c.args.n c.args.m c.loop-k.list c.loop-k.k c.args.room.now (omega arith) (subst (λ x. get_or c.args.room.now c.loop-k.k 0 < x) c.need_of.ensures c.if-room-k.true) ∙ sym c.loop-k.invariant.0
-
-pub loop-k-preserved : goal.loop-k-preserved
-loop-k-preserved c = (c.loop-k.invariant.0 ∙ room-more c.args.n c.args.m c.loop-k.list c.loop-k.k c.args.room.now (omega arith) (omega (arith, c.need_of.ensures, c.if-room-k.false)), omega arith)
+pub loop-list-preserved : goal.loop-list-preserved
+loop-list-preserved c =
+    let t = list-turn c.args.first c.args.room.now _ (cc) (cc) _ _ c.loop-list.yielded_by _ c.next.new.self c.next.ensures.steps _ _ c.in-Some.is in
+    let need = c.need_of.ensures ∙ ap (need_of c.args.n c.args.m) t.1 in
+    let more = length-append c.loop-list.yielded ((c.in-Some.list, c.in-Some.field-0-1) ∷ []) in
+    c.loop-list.invariant ∙ room-more _ _ _ _ _ _ _ t.0 (omega (arith, t.2, need)) (omega arith) (omega arith)
 
 pub returns : goal.returns
-returns c = room-end c.args.n c.args.m c.loop-k.list c.loop-k.k c.args.room.now (omega arith) ∙ sym c.loop-k.invariant.0
+returns c = room-end _ _ _ _ _ (list-end c.args.first c.args.room.now _ (cc) (cc) _ _ c.loop-list.yielded_by _ c.next.new.self c.next.ensures.steps c.in-None.is) ∙ sym c.loop-list.invariant

@@ -1,22 +1,21 @@
--- `read_scene` reads both parts, and nothing after them. Assumes nothing.
-use lib.ListN.{drop}
-use Rattle.rules.specs.Bytes.{bytes}
-use Rattle.rules.specs.Text.{place, counted, component, connection}
-use Rattle.text.specs.Filled.{ComponentsListed, ConnectionsListed}
-use Rattle.text.proofs.SceneSteps.{part-broken, part-found, scene-without-components, scene-without-connections, scene-goes-on, scene-whole}
+-- The scene from its parts. Assumes nothing.
+use Rattle.std.proofs.lemmas.Result.{err_from_is_err_and}
+use Rattle.text.proofs.ReadingSteps.{scene_none, scene_half, scene_end}
 use Rattle.text.proofs.reading.read_scene.Goals as goal
 
-pub counted_connections-second-requires : goal.counted_connections-second-requires
-counted_connections-second-requires c = ((part-found (ComponentsListed _) c.args.text.now (counted (bytes "components=") component (place 1 c.args.text.now)) c.counted_components-first.result c.counted_components-first.ensures c.in-Read.components c.in-Read.next c.in-Read.line c.in-Read.is).inside, c.requires, (part-found (ComponentsListed _) c.args.text.now (counted (bytes "components=") component (place 1 c.args.text.now)) c.counted_components-first.result c.counted_components-first.ensures c.in-Read.components c.in-Read.next c.in-Read.line c.in-Read.is).lines)
+pub returns-in_err-read_counted : goal.returns-in_err-read_counted
+returns-in_err-read_counted c =
+    let p = err_from_is_err_and c.from_residual.result c.from_residual.ensures.1 in
+    rw (p.1, p.2) (scene_none _ _ (rw (c.requires.1, c.new-lines.ensures) at c.in_err-read_counted.ensures.reads))
 
-pub returns-then-end-text : goal.returns-then-end-text
-returns-then-end-text c = scene-goes-on c.args.text.now _ c.in-Read.components c.in-Read.next c.in-Read.line (part-found (ComponentsListed _) c.args.text.now (counted (bytes "components=") component (place 1 c.args.text.now)) c.counted_components-first.result c.counted_components-first.ensures c.in-Read.components c.in-Read.next c.in-Read.line c.in-Read.is) _ c.in-Read-second.connections c.in-Read-second.end c.in-Read-second.last (part-found (ConnectionsListed _) c.args.text.now (counted (bytes "connections=") connection (place c.in-Read.line (drop c.in-Read.next c.args.text.now))) c.counted_connections-second.result c.counted_connections-second.ensures c.in-Read-second.connections c.in-Read-second.end c.in-Read-second.last c.in-Read-second.is) c.if-end-text.true
+pub returns-in_err-read_counted-2 : goal.returns-in_err-read_counted-2
+returns-in_err-read_counted-2 c =
+    let p = err_from_is_err_and c.from_residual-in_err-read_counted-2.result c.from_residual-in_err-read_counted-2.ensures.1 in
+    let components = rw (c.requires.1, c.new-lines.ensures) at c.in_ok-read_counted.ensures.reads in
+    rw (p.1, p.2) (scene_half _ _ _ components _ (rw c.requires.2 at c.in_err-read_counted-2.ensures.reads))
 
-pub returns-in-Broken : goal.returns-in-Broken
-returns-in-Broken c = scene-without-components c.args.text.now c.in-Broken.line (part-broken (ComponentsListed _) c.args.text.now (counted (bytes "components=") component (place 1 c.args.text.now)) c.counted_components-first.result c.counted_components-first.ensures c.in-Broken.line c.in-Broken.is)
-
-pub returns-in-Broken-second : goal.returns-in-Broken-second
-returns-in-Broken-second c = scene-without-connections c.args.text.now _ c.in-Read.components c.in-Read.next c.in-Read.line (part-found (ComponentsListed _) c.args.text.now (counted (bytes "components=") component (place 1 c.args.text.now)) c.counted_components-first.result c.counted_components-first.ensures c.in-Read.components c.in-Read.next c.in-Read.line c.in-Read.is) c.in-Broken-second.broken (part-broken (ConnectionsListed _) c.args.text.now (counted (bytes "connections=") connection (place c.in-Read.line (drop c.in-Read.next c.args.text.now))) c.counted_connections-second.result c.counted_connections-second.ensures c.in-Broken-second.broken c.in-Broken-second.is)
-
-pub returns-else-end-text : goal.returns-else-end-text
-returns-else-end-text c = scene-whole c.args.text.now _ c.in-Read.components c.in-Read.next c.in-Read.line (part-found (ComponentsListed _) c.args.text.now (counted (bytes "components=") component (place 1 c.args.text.now)) c.counted_components-first.result c.counted_components-first.ensures c.in-Read.components c.in-Read.next c.in-Read.line c.in-Read.is) _ c.in-Read-second.connections c.in-Read-second.end c.in-Read-second.last (part-found (ConnectionsListed _) c.args.text.now (counted (bytes "connections=") connection (place c.in-Read.line (drop c.in-Read.next c.args.text.now))) c.counted_connections-second.result c.counted_connections-second.ensures c.in-Read-second.connections c.in-Read-second.end c.in-Read-second.last c.in-Read-second.is) c.if-end-text.false
+pub returns : goal.returns
+returns c =
+    let components = rw (c.requires.1, c.new-lines.ensures) at c.in_ok-read_counted.ensures.reads in
+    let connections = rw c.requires.2 at c.in_ok-read_counted-2.ensures.reads in
+    scene_end _ _ _ components _ _ c.end.result connections c.end.ensures

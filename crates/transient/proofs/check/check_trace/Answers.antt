@@ -1,38 +1,29 @@
--- Test by test. Assumes nothing.
-use Rattle.rules.specs.Pulses.{event_lists}
-use Rattle.rules.specs.Verdicts.{contract_lists}
-use Rattle.rules.specs.Traces.{trace_limits, trace_lists, event_count, contract_count, event_lengths, contract_lengths}
-use Rattle.rules.proofs.TraceAcceptance.{aligned-events, aligned-contracts}
-use Rattle.rules.proofs.FirstRefusal.{flag-clear}
-use lib.ListN.{length}
-use Prim.Native.Nat.{◌+◌}
-use Rattle.transient.proofs.CheckSteps.{events-differ, contracts-differ, many-events, many-contracts, findings-short, then-values}
+-- The lengths, the sizes, the values. Assumes nothing.
+use Rattle.std.proofs.Common.{rules, ◌≡◌, Err, ap, ◌∙◌}
+use Rattle.transient.specs.Tested.{checked_of}
+use Rattle.transient.proofs.Tests.{lengths-refused, sizes-refused, then-values, then-rises}
 use Rattle.transient.proofs.check.check_trace.Goals as goal
 
-pub returns-then-lengths_differ : goal.returns-then-lengths_differ
-unfolding event_lengths
-returns-then-lengths_differ c = events-differ trace_limits (trace_lists c.args.unit (event_lists c.args.ticks.now c.args.components.now c.args.powered.now) (contract_lists c.args.contract_components.now c.args.contract_intents.now c.args.contract_powered.now c.args.contract_polarities.now c.args.contract_units.now c.args.contract_smallest.now c.args.contract_largest.now)) (c.args.start + length c.args.ticks.now) c.args.room c.lengths_differ.ensures c.if-lengths_differ.true
+pub returns-in_err-aligned-clause-checked : goal.returns-in_err-aligned-clause-checked
+returns-in_err-aligned-clause-checked c =
+    let e : c.from_residual.result ≡ Err c.in_err-aligned.field-0.0 = search rules in
+    ap checked_of e ∙ lengths-refused c.args.start c.args.trace.now c.args.room c.in_err-aligned.ensures.checked
 
-pub returns-then-lengths_differ-2 : goal.returns-then-lengths_differ-2
-unfolding event_lengths contract_lengths
-returns-then-lengths_differ-2 c = contracts-differ trace_limits (trace_lists c.args.unit (event_lists c.args.ticks.now c.args.components.now c.args.powered.now) (contract_lists c.args.contract_components.now c.args.contract_intents.now c.args.contract_powered.now c.args.contract_polarities.now c.args.contract_units.now c.args.contract_smallest.now c.args.contract_largest.now)) (c.args.start + length c.args.ticks.now) c.args.room c.lengths_differ.ensures c.if-lengths_differ.false c.lengths_differ-2.ensures c.if-lengths_differ-2.true
+pub returns-in_err-check_sizes-clause-checked : goal.returns-in_err-check_sizes-clause-checked
+returns-in_err-check_sizes-clause-checked c =
+    let e : c.from_residual-in_err-check_sizes.result ≡ Err c.in_err-check_sizes.field-0.0 = search rules in
+    ap checked_of e ∙ sizes-refused c.args.start c.args.trace.now c.args.room c.in_ok-aligned.ensures.checked c.in_err-check_sizes.ensures
 
-pub returns-then-events-gt-MAX_EVENTS : goal.returns-then-events-gt-MAX_EVENTS
-unfolding event_lengths contract_lengths event_count
-returns-then-events-gt-MAX_EVENTS c = many-events trace_limits (trace_lists c.args.unit (event_lists c.args.ticks.now c.args.components.now c.args.powered.now) (contract_lists c.args.contract_components.now c.args.contract_intents.now c.args.contract_powered.now c.args.contract_polarities.now c.args.contract_units.now c.args.contract_smallest.now c.args.contract_largest.now)) (c.args.start + length c.args.ticks.now) c.args.room c.lengths_differ.ensures c.if-lengths_differ.false c.lengths_differ-2.ensures c.if-lengths_differ-2.false c.if-events-gt-MAX_EVENTS.true
+pub returns-in_err-check_values-clause-checked : goal.returns-in_err-check_values-clause-checked
+returns-in_err-check_values-clause-checked c =
+    let e : c.from_residual-in_err-check_values.result ≡ Err c.in_err-check_values.field-0.0 = search rules in
+    ap checked_of e ∙ then-values c.args.start c.args.trace.now c.args.room c.in_ok-aligned.ensures.checked c.in_ok-check_sizes.ensures c.in_ok-aligned.ensures.trace c.in_err-check_values.ensures
 
-pub returns-then-contracts-gt-MAX_CONTRACTS : goal.returns-then-contracts-gt-MAX_CONTRACTS
-unfolding event_lengths contract_lengths event_count contract_count
-returns-then-contracts-gt-MAX_CONTRACTS c = many-contracts trace_limits (trace_lists c.args.unit (event_lists c.args.ticks.now c.args.components.now c.args.powered.now) (contract_lists c.args.contract_components.now c.args.contract_intents.now c.args.contract_powered.now c.args.contract_polarities.now c.args.contract_units.now c.args.contract_smallest.now c.args.contract_largest.now)) (c.args.start + length c.args.ticks.now) c.args.room c.lengths_differ.ensures c.if-lengths_differ.false c.lengths_differ-2.ensures c.if-lengths_differ-2.false c.if-events-gt-MAX_EVENTS.false c.if-contracts-gt-MAX_CONTRACTS.true
+pub returns-clause-checked : goal.returns-clause-checked
+returns-clause-checked c =
+    then-values c.args.start c.args.trace.now c.args.room c.in_ok-aligned.ensures.checked c.in_ok-check_sizes.ensures c.in_ok-aligned.ensures.trace c.in_ok-check_values.ensures
 
-pub returns-then-too_short : goal.returns-then-too_short
-unfolding event_lengths contract_lengths event_count contract_count
-returns-then-too_short c = findings-short trace_limits (trace_lists c.args.unit (event_lists c.args.ticks.now c.args.components.now c.args.powered.now) (contract_lists c.args.contract_components.now c.args.contract_intents.now c.args.contract_powered.now c.args.contract_polarities.now c.args.contract_units.now c.args.contract_smallest.now c.args.contract_largest.now)) (c.args.start + length c.args.ticks.now) c.args.room c.lengths_differ.ensures c.if-lengths_differ.false c.lengths_differ-2.ensures c.if-lengths_differ-2.false c.if-events-gt-MAX_EVENTS.false c.if-contracts-gt-MAX_CONTRACTS.false c.too_short.ensures c.if-too_short.true
-
-pub check_values-requires : goal.check_values-requires
-unfolding event_lengths contract_lengths
-check_values-requires c = (aligned-events (event_lists c.args.ticks.now c.args.components.now c.args.powered.now) (flag-clear c.lengths_differ.ensures c.if-lengths_differ.false), aligned-contracts (contract_lists c.args.contract_components.now c.args.contract_intents.now c.args.contract_powered.now c.args.contract_polarities.now c.args.contract_units.now c.args.contract_smallest.now c.args.contract_largest.now) (flag-clear c.lengths_differ-2.ensures c.if-lengths_differ-2.false))
-
-pub returns : goal.returns
-unfolding event_lengths contract_lengths event_count contract_count
-returns c = then-values trace_limits (trace_lists c.args.unit (event_lists c.args.ticks.now c.args.components.now c.args.powered.now) (contract_lists c.args.contract_components.now c.args.contract_intents.now c.args.contract_powered.now c.args.contract_polarities.now c.args.contract_units.now c.args.contract_smallest.now c.args.contract_largest.now)) (c.args.start + length c.args.ticks.now) c.args.room c.lengths_differ.ensures c.if-lengths_differ.false c.lengths_differ-2.ensures c.if-lengths_differ-2.false c.if-events-gt-MAX_EVENTS.false c.if-contracts-gt-MAX_CONTRACTS.false c.too_short.ensures c.if-too_short.false c.check_values.ensures
+pub invariant_of-result : goal.invariant_of-result
+invariant_of-result c = record {
+  rises = then-rises c.args.start c.args.trace.now c.args.room c.in_ok-aligned.ensures.checked c.in_ok-check_sizes.ensures c.in_ok-aligned.ensures.trace c.in_ok-check_values.ensures;
+}

@@ -1,0 +1,149 @@
+// The number lists that calls are lent, one for each field. Those that a call reads are handed on by copies of the
+// references; those that it writes are lent for the call.
+
+// The components of a scene, and its connections: a number list for each field, all of one record kind as long as one another.
+#[derive(Clone, Copy)]
+pub struct Components<'a> {
+    pub ids: &'a [u64],
+    pub kinds: &'a [u8],
+    pub delays: &'a [u16],
+    pub locked: &'a [u8],
+    pub xs: &'a [i32],
+    pub ys: &'a [i32],
+    pub zs: &'a [i32],
+}
+
+#[derive(Clone, Copy)]
+pub struct Connections<'a> {
+    pub sources: &'a [u64],
+    pub sinks: &'a [u64],
+    pub transfers: &'a [u8],
+}
+
+#[derive(Clone, Copy)]
+pub struct Scene<'a> {
+    pub components: Components<'a>,
+    pub connections: Connections<'a>,
+}
+
+// The events of a trace, and its contracts.
+#[derive(Clone, Copy)]
+pub struct Events<'a> {
+    pub ticks: &'a [u64],
+    pub components: &'a [u64],
+    pub powered: &'a [u8],
+}
+
+#[derive(Clone, Copy)]
+pub struct Contracts<'a> {
+    pub components: &'a [u64],
+    pub intents: &'a [u8],
+    pub powered: &'a [u8],
+    pub polarities: &'a [u8],
+    pub units: &'a [u8],
+    pub smallest: &'a [u64],
+    pub largest: &'a [u64],
+}
+
+// A trace: the number of its time unit, its events and the contracts by which it is judged.
+#[derive(Clone, Copy)]
+pub struct Trace<'a> {
+    pub unit: u8,
+    pub events: Events<'a>,
+    pub contracts: Contracts<'a>,
+}
+
+// Lists 0, 1 and 2.
+#[derive(Drop)]
+pub struct TimedEdgeLists<'a> {
+    pub sources: &'a mut [u64],
+    pub sinks: &'a mut [u64],
+    pub minimums: &'a mut [u32],
+    pub maximums: &'a mut [u32],
+    pub behaviors: &'a mut [u8],
+}
+
+#[derive(Drop)]
+pub struct DeviceLists<'a> {
+    pub components: &'a mut [u64],
+    pub xs: &'a mut [i32],
+    pub ys: &'a mut [i32],
+    pub zs: &'a mut [i32],
+    pub semantics: &'a mut [u8],
+    pub delays: &'a mut [u32],
+}
+
+#[derive(Drop)]
+pub struct EvidenceLists<'a> {
+    pub kinds: &'a mut [u8],
+    pub sources: &'a mut [u64],
+    pub sinks: &'a mut [u64],
+    pub components: &'a mut [u64],
+    pub blocks: &'a mut [u8],
+}
+
+// The lists that `describe_scene` writes.
+#[derive(Drop)]
+pub struct DescriptionLists<'a> {
+    pub edges: TimedEdgeLists<'a>,
+    pub devices: DeviceLists<'a>,
+    pub evidence: EvidenceLists<'a>,
+}
+
+// List 3.
+#[derive(Drop)]
+pub struct ReasonLists<'a> {
+    pub kinds: &'a mut [u8],
+    pub components: &'a mut [u64],
+    pub blocks: &'a mut [u8],
+    pub minimums: &'a mut [u32],
+    pub maximums: &'a mut [u32],
+}
+
+// Lists 6 and 7: the fields of the projected edges, and the ids of their paths.
+#[derive(Drop)]
+pub struct ProjectionLists<'a> {
+    pub sources: &'a mut [u64],
+    pub sinks: &'a mut [u64],
+    pub inverted: &'a mut [u8],
+    pub minimums: &'a mut [u32],
+    pub maximums: &'a mut [u32],
+    pub starts: &'a mut [usize],
+    pub lengths: &'a mut [usize],
+    pub path_ids: &'a mut [u64],
+}
+
+// List 8.
+#[derive(Drop)]
+pub struct LabelLists<'a> {
+    pub settled: &'a mut [u8],
+    pub lows: &'a mut [u32],
+    pub highs: &'a mut [u32],
+}
+
+// The lists that `assess_scene` writes: 3 to 8.
+#[derive(Drop)]
+pub struct AssessmentLists<'a> {
+    pub reasons: ReasonLists<'a>,
+    pub feedback_ids: &'a mut [u64],
+    pub marks: &'a mut [u8],
+    pub projected: ProjectionLists<'a>,
+    pub labels: LabelLists<'a>,
+}
+
+// List 9.
+#[derive(Drop)]
+pub struct Findings<'a> {
+    pub components: &'a mut [u64],
+    pub polarities: &'a mut [u8],
+    pub units: &'a mut [u8],
+    pub start_ticks: &'a mut [u64],
+    pub end_ticks: &'a mut [u64],
+    pub widths: &'a mut [u64],
+    pub steady: &'a mut [u8],
+    pub baselines: &'a mut [usize],
+    pub starts: &'a mut [usize],
+    pub ends: &'a mut [usize],
+    pub verdicts: &'a mut [u8],
+    pub rationales: &'a mut [u8],
+}

@@ -1,0 +1,9 @@
+-- The first of a bucket, else those behind it. Assumes nothing.
+use Rattle.scene.proofs.BucketSteps.{ahead-all, found_here}
+use Rattle.scene.proofs.buckets.IndexedIds.find.Goals as goal
+
+pub returns-then-self-first : goal.returns-then-self-first
+returns-then-self-first c = found_here _ _ _ _ c.args.self.now.indexed _ _ c.if-first-self.true c.if-self-first.true (rw c.bucket_of.ensures (ahead-all _ _ _ _ c.args.self.now.indexed c.args.id))
+
+pub find_chained-requires : goal.find_chained-requires
+find_chained-requires c = rw c.bucket_of.ensures (ahead-all _ _ _ _ c.args.self.now.indexed c.args.id)

@@ -1,0 +1,2 @@
+-- Lists to work in that a call cuts to the nodes:
+pub mod Cut

@@ -1,5 +1,0 @@
--- The digits of the tenth, then the last. The measure is the number. Assumes nothing.
-use Rattle.text.proofs.put.+put_number.Given as goal
-
-abbrev pub decreases-put_number : goal.decreases-put_number
-decreases-put_number l = l.n

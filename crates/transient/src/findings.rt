@@ -1,0 +1,84 @@
+// The entries of list 9.
+ghost use Rattle.std.specs.Prelude.{◌≡◌, [], ◌∷◌, ◌+◌, ◌^◌, ◌<◌, length, slice_index, slice_set};
+ghost use Rattle.rules.specs.Lists.{written_from};
+ghost use Rattle.rules.specs.Codes.{unit_of, verdict_code};
+ghost use Rattle.rules.specs.Lent.{events_lent, contracts_lent, findings_lent, SameFindings};
+ghost use Rattle.rules.specs.Verdicts.{contracts_of, FindingsListed};
+ghost use Rattle.transient.specs.Judged.{finding_read, found, AllInside, FindingRoom, FindingsWritten};
+
+use crate::pulses::EventRow;
+use rules::lent::Findings;
+use rules::transient::{Judgement, TransientVerdict};
+use tables::codes::unit_of;
+use verdicts::pulse::Pulse;
+
+// A pulse and what is judged of it.
+#[derive(Clone, Copy, PartialEq, Eq, Debug)]
+pub(crate) struct Finding {
+    pub pulse: Pulse,
+    pub judgement: Judgement,
+}
+
+impl Finding {
+    // Writes it to a place of list 9.
+    fn write(self, at: usize, findings: &mut Findings<'_>)
+        requires { FindingRoom at 1 (findings_lent findings.old) }
+        ensures same { SameFindings findings.old findings.new }
+        ensures listed { FindingsListed (written_from at) (finding_read self ∷ []) (findings_lent findings.old) (findings_lent findings.new) }
+    {
+        let Finding { pulse, judgement } = self;
+        findings.components[at] = pulse.component;
+        findings.polarities[at] = u8::from(pulse.polarity);
+        findings.units[at] = u8::from(pulse.unit);
+        findings.start_ticks[at] = pulse.start_tick;
+        findings.end_ticks[at] = pulse.end_tick;
+        findings.widths[at] = pulse.width;
+        findings.steady[at] = u8::from(pulse.steady);
+        findings.baselines[at] = pulse.baseline_event;
+        findings.starts[at] = pulse.start_event;
+        findings.ends[at] = pulse.end_event;
+        findings.verdicts[at] = u8::from(judgement.verdict);
+        findings.rationales[at] = u8::from(judgement.rationale);
+    }
+}
+
+// One more finding of this verdict.
+fn count_verdict(tallies: &mut [u64; 5], verdict: TransientVerdict)
+    requires { slice_index tallies.old (verdict_code verdict) + 1 < 2 ^ 64 }
+    ensures { tallies.new ≡ slice_set tallies.old (verdict_code verdict) (slice_index tallies.old (verdict_code verdict) + 1) }
+{
+    tallies[usize::from(u8::from(verdict))] += 1;
+}
+
+impl EventRow<'_> {
+    // The finding of the pulse that begins at a place, by the contract of its component.
+    fn finding(self, k: usize) -> Finding
+        requires { k + 2 < length self.positions.now }
+        ensures { finding_read result ≡ found (contracts_of (contracts_lent self.entry.trace.aligned.lent.contracts)) self.entry.trace.aligned.lent.unit (events_lent self.entry.trace.aligned.lent.events) self.entry.positions.now k }
+    {
+        let pulse = self.window(k).pulse(unit_of(self.trace.aligned.lent.unit));
+        let judgement = pulse.classify(self.trace.design_intent(pulse.component));
+        Finding { pulse, judgement }
+    }
+
+    // Writes a finding for each place at which a pulse begins, from start on; answers the tallies.
+    pub(crate) fn write_findings(
+        self,
+        places: &[usize],
+        start: usize,
+        findings: &mut Findings<'_>,
+    ) -> [u64; 5]
+        requires places { AllInside (length self.positions.now) places.now }
+        requires room { FindingRoom start (length places.now) (findings_lent findings.old) }
+        ensures same { SameFindings findings.old findings.new }
+        ensures written { FindingsWritten (contracts_of (contracts_lent self.entry.trace.aligned.lent.contracts)) self.entry.trace.aligned.lent.unit (events_lent self.entry.trace.aligned.lent.events) self.entry.positions.now places.now start (findings_lent findings.old) (findings_lent findings.new) result }
+    {
+        let mut tallies = [0u64; 5];
+        for (j, &k) in places.iter().enumerate() {
+            let finding = self.finding(k);
+            finding.write(start + j, findings);
+            count_verdict(&mut tallies, finding.judgement.verdict);
+        }
+        tallies
+    }
+}
