@@ -1,5 +1,5 @@
 -- From the components of a scene to the lists that the projection asks for. Assumes nothing.
-use Rattle.std.proofs.Common.{Option, is_some, IfSome, ◌≡◌, ℕ, ◌≤◌, List, true, length, take, replicate, sym, ap, ◌∙◌, arith}
+use Rattle.std.proofs.Common.{Option, is_some, IfSome, ◌≡◌, ℕ, ◌≤◌, List, true, length, take, replicate, ap, ◌∙◌, arith}
 use Rattle.std.proofs.lemmas.List.{length-replicate}
 use Rattle.rules.specs.Lists.{written}
 use Rattle.rules.specs.Refusals.{scene_limits}
@@ -7,8 +7,8 @@ use Rattle.rules.specs.Scene.{ComponentLists}
 use Rattle.rules.proofs.Indices.{made-length}
 use Rattle.rules.proofs.Written.{written-front}
 use Rattle.projection.specs.declared.Projected.{Projected}
-use Rattle.projection.specs.Projecting.{ProjectedLists, WorkLists, work_lists, node_lists, Projecting, ProjectionCall}
-use Rattle.projection.proofs.FitSteps.{Fitted}
+use Rattle.projection.specs.Projecting.{ProjectedLists, WorkLists, work_lists, node_lists, Projecting, ProjectionCall, projection_fits}
+use Rattle.projection.proofs.FitSteps.{Fitted, fitting}
 use Rattle.projection.proofs.Promises.{fitting-projects}
 use Rattle.assess.specs.Nodes.{delays_of, inverts_of, compressible_of}
 use Rattle.assess.specs.Ready.{scene_nodes, ProjectionReady}
@@ -83,3 +83,7 @@ module _ {l : ComponentLists} {sources sinks order marks : List ℕ} {c : Projec
     projected {marks'} {c'} {w'} {r} call =
         let here : ProjectionCall (scene_nodes l sources sinks order) marks marks' c c' w w' r = rw (low-front, inverts-front, compressible-front) at call in
         fitting-projects here fitted
+
+    -- so the lists that the projection is handed fit
+    pub fronts-fit : projection_fits (node_lists l.ids sources sinks (take (length l.ids) low') (take (length l.ids) low') (take (length l.ids) inverts') (take (length l.ids) compressible') order) marks c w ≡ true
+    fronts-fit = rw (low-front, inverts-front, compressible-front, fitting (scene_nodes l sources sinks order) marks c w fitted)

@@ -1,11 +1,9 @@
 -- What the projection gets to know of each component, and what it needs of the lists lent. Assumes nothing: these are definitions.
-use Rattle.std.specs.Prelude.{true, cond, List, map, ◌≡◌, ℕ, ◌*◌, ◌≤◌, length, take}
+use Rattle.std.specs.Prelude.{cond, List, map, ℕ, length}
 use Rattle.rules.specs.Lists.{indices}
 use Rattle.rules.specs.Ordered.{key_at}
-use Rattle.rules.specs.Positions.{id_at}
 use Rattle.rules.specs.Kinds.{kind_row, component_delay}
 use Rattle.rules.specs.Projection.{is_delayed_invert, compressible_kind}
-use Rattle.rules.specs.Refusals.{scene_limits}
 
 -- a delay for each component, and 1 or 0 for what its kind is
 unfoldable pub delays_of : (kinds delays : List ℕ) → List ℕ

@@ -1,33 +1,23 @@
 -- What the passes need of an accepted scene, whose edges are given over its positions. Assumes nothing: these are definitions.
 use Rattle.std.specs.Prelude.{true, List, [], ◌∷◌, map, ◌≡◌, ℕ, ◌*◌, ◌≤◌, length}
-use Rattle.rules.specs.Assess.{AssessLists, assess_lists, assess_checked}
+use Rattle.rules.specs.Assess.{AssessLists, assess_lists}
 use Rattle.rules.specs.declared.lent.LabelLists.{LabelLists}
 use Rattle.rules.specs.declared.lent.ProjectionLists.{ProjectionLists}
 use Rattle.rules.specs.declared.lent.ReasonLists.{ReasonLists}
-use Rattle.rules.specs.Graph.{edges_between}
-use Rattle.rules.specs.Ordered.{ordered}
-use Rattle.rules.specs.Positions.{id_at, Positioned}
-use Rattle.rules.specs.Refusals.{accepted, scene_limits, shortest}
-use Rattle.rules.specs.Scene.{ComponentLists, ConnectionLists, edges_of, connections_of}
+use Rattle.rules.specs.Positions.{id_at}
+use Rattle.rules.specs.Refusals.{scene_limits, shortest}
+use Rattle.rules.specs.Scene.{ComponentLists}
 use Rattle.graph.specs.Adjacency.{Below}
 use Rattle.projection.specs.Projecting.{NodeLists, ProjectedLists, node_lists, rises}
 use Rattle.assess.specs.Nodes.{delays_of, inverts_of, compressible_of}
 
 -- the shortest length of each of the output lists 3 to 8
-abbrev pub assessment_room : AssessLists → List ℕ
+unfoldable pub assessment_room : AssessLists → List ℕ
 assessment_room o =
     shortest (length o.reason_kinds ∷ length o.reason_components ∷ length o.reason_blocks ∷ length o.reason_minimums ∷ length o.reason_maximums ∷ [])
     ∷ length o.feedback_ids ∷ length o.marks
     ∷ shortest (length o.projected_sources ∷ length o.projected_sinks ∷ length o.projected_inverted ∷ length o.projected_minimums ∷ length o.projected_maximums ∷ length o.projected_starts ∷ length o.projected_lengths ∷ [])
     ∷ length o.path_ids ∷ shortest (length o.label_settled ∷ length o.label_lows ∷ length o.label_highs ∷ []) ∷ []
-
--- a scene that is accepted, its edges over positions, and its positions by rising id
-pub record SceneReady (l : ComponentLists) (m : ConnectionLists) (o : AssessLists) (sources sinks order : List ℕ) : Type 0 where
-  pub accepts : assess_checked scene_limits l m o ≡ accepted
-  pub sorted : order ≡ ordered l.ids
-  pub edges_few : length sources ≤ length m.sources
-  pub pairs : length sinks ≡ length sources
-  pub positioned : Positioned l.ids (edges_of (connections_of m)) (edges_between sources sinks)
 
 -- what the projection reads of a scene
 abbrev pub scene_nodes : ComponentLists → (sources sinks order : List ℕ) → NodeLists

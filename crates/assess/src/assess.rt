@@ -1,27 +1,23 @@
 // The call that writes lists 3 to 8.
-ghost use Rattle.std.specs.Prelude.{IfOk, ◌≡◌, ◌≤◌, length};
+ghost use Rattle.std.specs.Prelude.{◌≡◌, ◌≤◌, length};
 ghost use Rattle.rules.specs.Lent.{SameAssessment, SameLabels, SameProjection, SameReasons, assessment_lent, components_lent, connections_lent};
 ghost use Rattle.rules.specs.Refusals.{scene_limits};
-ghost use Rattle.rules.specs.Assess.{AssessCall, assess_checked};
+ghost use Rattle.rules.specs.Assess.{AssessCall};
 ghost use Rattle.reasons.specs.Assessed.{Assessable, OutputRoom, ReasonsFound};
 ghost use Rattle.reasons.specs.Lent.{labels_lent, reasons_lent};
-ghost use Rattle.scene.specs.Indexed.{IndexRoom, Tested};
-ghost use Rattle.scene.specs.Lent.{SamePositions, positions_lent};
 ghost use Rattle.assess.specs.Answer.{assessed_of};
-ghost use Rattle.assess.specs.Ready.{SceneReady, assessment_room, grouped};
+ghost use Rattle.assess.specs.Ready.{assessment_room, grouped};
 
 use crate::project::project_scene;
-use graph::edges::Edges;
 use lengths::shortest;
 use projection::Projected;
 use reasons::{ReasonsAssessed, assess_reasons};
-use rules::answers::{Assessment, Refusal};
+use rules::answers::{Assessment, OutputList, Refusal};
 use rules::lent::{AssessmentLists, Components, LabelLists, ProjectionLists, ReasonLists, Scene};
-use rules::limits::{MAX_COMPONENTS, MAX_CONNECTIONS};
-use scene::lent::Positions;
-use scene::positions::{Unplaced, scene_positions};
+use scene::place::{Placed, SceneRoom};
 
 // The shortest lengths of lists 3 to 8.
+#[tactic(auto, unfolding(crate::specs::Ready::assessment_room))]
 fn room_of(
     reasons: &ReasonLists<'_>,
     feedback_ids: &[u64],
@@ -55,46 +51,29 @@ fn room_of(
     ]
 }
 
-// Tests the scene, given the lists that it is to be assessed in, and indexes it; answers how many edges there are.
-fn place_scene(
-    scene: &Scene<'_>,
-    reasons: &ReasonLists<'_>,
-    feedback_ids: &[u64],
-    marks: &[u8],
-    projected: &ProjectionLists<'_>,
-    labels: &LabelLists<'_>,
-    positions: &mut Positions<'_>,
-) -> Result<usize, Refusal>
-    requires { IndexRoom (positions_lent positions.old) }
-    ensures same { SamePositions positions.old positions.new }
-    ensures tested { Tested (assess_checked scene_limits (components_lent scene.now.components) (connections_lent scene.now.connections) (grouped reasons.now feedback_ids.now marks.now projected.now labels.now)) scene.now.components.ids.now (connections_lent scene.now.connections) (positions_lent positions.new) result }
-    ensures few_edges { IfOk result (λ count. count ≤ scene_limits.connections) }
-    ensures few_components { IfOk result (λ count. length scene.now.components.ids.now ≤ scene_limits.components) }
-{
-    let room = room_of(reasons, feedback_ids, marks, projected, labels);
-    match scene_positions(scene, 3, &room, positions) {
-        Ok(count) => Ok(count),
-        Err(Unplaced::Refused(refusal)) => Err(refusal),
-        // the positions have room for every scene
-        Err(Unplaced::NoRoom) => unreachable!(),
-    }
-}
-
 // Lists 3, 4 and 8 of an accepted scene, whose lists fit.
 fn reason_scene(
     components: &Components<'_>,
-    edges: &Edges<'_>,
-    order: &[usize],
+    placed: &Placed<'_>,
     reasons: &mut ReasonLists<'_>,
     feedback_ids: &mut [u64],
     labels: &mut LabelLists<'_>,
 ) -> ReasonsAssessed
-    requires { Assessable (components_lent components.now) edges.now.sources.now edges.now.sinks.now order.now × OutputRoom (length components.now.ids.now) (reasons_lent reasons.old) feedback_ids.old (labels_lent labels.old) }
+    requires { Assessable (components_lent components.now) placed.now.edges.sources.now placed.now.edges.sinks.now placed.now.order.now × OutputRoom (length components.now.ids.now) (reasons_lent reasons.old) feedback_ids.old (labels_lent labels.old) }
     ensures same_reasons { SameReasons reasons.old reasons.new }
     ensures same_labels { SameLabels labels.old labels.new }
-    ensures found { ReasonsFound (components_lent components.now) edges.now.sources.now edges.now.sinks.now order.now (reasons_lent reasons.old) feedback_ids.old (labels_lent labels.old) (reasons_lent reasons.new) feedback_ids.new (labels_lent labels.new) result }
+    ensures found { ReasonsFound (components_lent components.now) placed.now.edges.sources.now placed.now.edges.sinks.now placed.now.order.now (reasons_lent reasons.old) feedback_ids.old (labels_lent labels.old) (reasons_lent reasons.new) feedback_ids.new (labels_lent labels.new) result }
 {
-    assess_reasons(components, edges, order, reasons, feedback_ids, labels).unwrap()
+    let edges = &placed.edges;
+    assess_reasons(
+        components,
+        edges,
+        placed.order,
+        reasons,
+        feedback_ids,
+        labels,
+    )
+    .unwrap()
 }
 
 // The assessment of n components.
@@ -115,32 +94,9 @@ fn assessed(n: usize, reasons: ReasonsAssessed, projected: Projected) -> Assessm
     }
 }
 
-// Writes the reasons, Feedback ids, marks, projected edges, paths and labels of an accepted scene, whose edges stand over
-// positions.
-fn assess_accepted(
-    scene: &Scene<'_>,
-    placed: &Edges<'_>,
-    order: &[usize],
-    reasons: &mut ReasonLists<'_>,
-    feedback_ids: &mut [u64],
-    marks: &mut [u8],
-    projected: &mut ProjectionLists<'_>,
-    labels: &mut LabelLists<'_>,
-) -> Assessment
-    requires { SceneReady (components_lent scene.now.components) (connections_lent scene.now.connections) (grouped reasons.old feedback_ids.old marks.old projected.old labels.old) placed.now.sources.now placed.now.sinks.now order.now }
-    ensures same_reasons { SameReasons reasons.old reasons.new }
-    ensures same_projection { SameProjection projected.old projected.new }
-    ensures same_labels { SameLabels labels.old labels.new }
-    ensures assessed { AssessCall scene_limits (components_lent scene.now.components) (connections_lent scene.now.connections) (grouped reasons.old feedback_ids.old marks.old projected.old labels.old) (grouped reasons.new feedback_ids.new marks.new projected.new labels.new) (Ok result) }
-{
-    let components = &scene.components;
-    let told = reason_scene(components, placed, order, reasons, feedback_ids, labels);
-    let counts = project_scene(components, placed, order, marks, projected);
-    assessed(components.ids.len(), told, counts)
-}
-
 // Writes the reasons, Feedback ids, marks, projected edges, paths and labels of a scene, or refuses the scene and
-// leaves every list as it was.
+// leaves every list as it was. The lists are lent group by group: of a struct of these structs, made in the call for C, a
+// proof loses what the lists hold.
 pub fn assess_lists(
     scene: &Scene<'_>,
     reasons: &mut ReasonLists<'_>,
@@ -154,38 +110,13 @@ pub fn assess_lists(
     ensures same_labels { SameLabels labels.old labels.new }
     ensures assessed { AssessCall scene_limits (components_lent scene.now.components) (connections_lent scene.now.connections) (grouped reasons.old feedback_ids.old marks.old projected.old labels.old) (grouped reasons.new feedback_ids.new marks.new projected.new labels.new) result }
 {
-    let mut order = [0; MAX_COMPONENTS];
-    let mut starts = [0; MAX_CONNECTIONS];
-    let mut stops = [0; MAX_CONNECTIONS];
-    let mut positions = Positions {
-        order: &mut order,
-        starts: &mut starts,
-        stops: &mut stops,
-    };
-    let count = place_scene(
-        scene,
-        reasons,
-        feedback_ids,
-        marks,
-        projected,
-        labels,
-        &mut positions,
-    )?;
-    let placed = Edges {
-        sources: &starts[..count],
-        sinks: &stops[..count],
-    };
-    let order = &order[..scene.components.ids.len()];
-    Ok(assess_accepted(
-        scene,
-        &placed,
-        order,
-        reasons,
-        feedback_ids,
-        marks,
-        projected,
-        labels,
-    ))
+    let mut own = SceneRoom::new();
+    let room = room_of(reasons, feedback_ids, marks, projected, labels);
+    let placed = own.place(scene, OutputList::Reasons as usize, &room)?;
+    let components = &scene.components;
+    let told = reason_scene(components, &placed, reasons, feedback_ids, labels);
+    let counts = project_scene(components, &placed, marks, projected);
+    Ok(assessed(components.ids.len(), told, counts))
 }
 
 // The same with its lists in one struct.

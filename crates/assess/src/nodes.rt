@@ -1,5 +1,5 @@
 // What the projection has to know of each component, by position.
-ghost use Rattle.std.specs.Prelude.{cond, ◌≡◌, ◌≤◌, length};
+ghost use Rattle.std.specs.Prelude.{◌≡◌, ◌≤◌, length};
 ghost use Rattle.rules.specs.Lists.{written};
 ghost use Rattle.rules.specs.Projection.{is_delayed_invert, compressible_kind};
 ghost use Rattle.rules.specs.Refusals.{scene_limits};
@@ -10,7 +10,8 @@ use rules::lent::Components;
 use rules::limits::MAX_COMPONENTS;
 use tables::kinds::{delay_by, kind_row};
 
-// The delay of each component, whether its edges invert and whether it is of a kind that may be compressed: 1 or 0.
+// The delay of each component, whether its edges invert and whether it is of a kind that may be compressed: 1 or 0, in
+// lists of fixed length (no heap) that are lent to the projection, which asks for them apart and as numbers.
 #[derive(Drop)]
 pub(crate) struct NodeLists {
     pub low: [u32; MAX_COMPONENTS],
@@ -18,21 +19,22 @@ pub(crate) struct NodeLists {
     pub compressible: [u8; MAX_COMPONENTS],
 }
 
-// 1 where edges of a behaviour invert with a delay, else 0.
-fn inverts_by(behavior: EdgeBehavior) -> u8
-    ensures { result ≡ cond (is_delayed_invert behavior) 1 0 }
+// Whether edges of a behaviour invert with a delay.
+fn inverts(behavior: EdgeBehavior) -> bool
+    ensures { result ≡ is_delayed_invert behavior }
 {
-    u8::from(behavior == EdgeBehavior::DelayedInvert)
+    behavior == EdgeBehavior::DelayedInvert
 }
 
-// 1 where a node is a Wire, Conductor or Delay, else 0.
-fn is_compressible(node: TemporalNodeKind) -> u8
-    ensures { result ≡ cond (compressible_kind node) 1 0 }
+// Whether a node is a Wire, Conductor or Delay. The kinds that is_listed of reasons passes over lack Delay, so there is no
+// common test.
+fn is_compressible(node: TemporalNodeKind) -> bool
+    ensures { result ≡ compressible_kind node }
 {
-    u8::from(matches!(
+    matches!(
         node,
         TemporalNodeKind::Wire | TemporalNodeKind::Conductor | TemporalNodeKind::Delay
-    ))
+    )
 }
 
 // Fills the lists' fronts, one entry for each component.
@@ -44,10 +46,11 @@ pub(crate) fn fill_nodes(components: &Components<'_>, nodes: &mut NodeLists)
     ensures inverts { nodes.new.inverts ≡ written nodes.old.inverts (inverts_of components.now.kinds.now) }
     ensures compressible { nodes.new.compressible ≡ written nodes.old.compressible (compressible_of components.now.kinds.now) }
 {
+    // one index for the three lists that are written
     for (i, &kind) in components.kinds.iter().enumerate() {
         let row = kind_row(kind);
         nodes.low[i] = delay_by(row.delay, components.delays[i]);
-        nodes.inverts[i] = inverts_by(row.behavior);
-        nodes.compressible[i] = is_compressible(row.node);
+        nodes.inverts[i] = u8::from(inverts(row.behavior));
+        nodes.compressible[i] = u8::from(is_compressible(row.node));
     }
 }

@@ -5,23 +5,22 @@ ghost use Rattle.projection.specs.Projecting.{Projecting};
 ghost use Rattle.assess.specs.Ready.{ProjectionReady, scene_nodes};
 
 use crate::nodes::{NodeLists, fill_nodes};
-use graph::edges::Edges;
 use projection::lent::{Nodes, ProjectionRoom};
 use projection::{Projected, steady_state_projection};
 use rules::lent::{Components, ProjectionLists};
 use rules::limits::{MAX_COMPONENTS, MAX_CONNECTIONS};
+use scene::place::Placed;
 
 // Writes lists 5, 6 and 7; answers how many components are retained, and how many entries of lists 6 and 7 are used.
 pub(crate) fn project_scene(
     components: &Components<'_>,
-    edges: &Edges<'_>,
-    order: &[usize],
+    placed: &Placed<'_>,
     marks: &mut [u8],
     projected: &mut ProjectionLists<'_>,
 ) -> Projected
-    requires { ProjectionReady (components_lent components.now) edges.now.sources.now edges.now.sinks.now order.now marks.old (projection_lent projected.old) }
+    requires { ProjectionReady (components_lent components.now) placed.now.edges.sources.now placed.now.edges.sinks.now placed.now.order.now marks.old (projection_lent projected.old) }
     ensures same { SameProjection projected.old projected.new }
-    ensures projecting { Projecting (scene_nodes (components_lent components.now) edges.now.sources.now edges.now.sinks.now order.now) marks.old marks.new (projection_lent projected.old) (projection_lent projected.new) result }
+    ensures projecting { Projecting (scene_nodes (components_lent components.now) placed.now.edges.sources.now placed.now.edges.sinks.now placed.now.order.now) marks.old marks.new (projection_lent projected.old) (projection_lent projected.new) result }
 {
     let n = components.ids.len();
     let mut lists = NodeLists {
@@ -48,5 +47,13 @@ pub(crate) fn project_scene(
         firsts: &mut firsts,
     };
     // the lists of an accepted scene fit
-    steady_state_projection(&nodes, edges, order, marks, projected, &mut room).unwrap()
+    steady_state_projection(
+        &nodes,
+        &placed.edges,
+        placed.order,
+        marks,
+        projected,
+        &mut room,
+    )
+    .unwrap()
 }

@@ -40,12 +40,12 @@ module _ (kinds : List ℕ) (first : ℕ) where
   unfolding device_positions indices from keep
   placed_none = record { counted = omega arith; few = omega arith }
 
-  module _ (place i : ℕ) (was : PlacedBelow kinds first place i) where
-    pub placed_more : Taken kinds i → PlacedBelow kinds first (place + 1) (i + 1)
-    placed_more e = record { counted = rw e (omega (arith, was.counted, length-append (device_positions kinds i) (i ∷ []))); few = omega (arith, was.few) }
+module _ {kinds : List ℕ} {first place i : ℕ} (was : PlacedBelow kinds first place i) where
+  pub placed_more : Taken kinds i → PlacedBelow kinds first (place + 1) (i + 1)
+  placed_more e = record { counted = rw e (omega (arith, was.counted, length-append (device_positions kinds i) (i ∷ []))); few = omega (arith, was.few) }
 
-    pub placed_same : Passed kinds i → PlacedBelow kinds first place (i + 1)
-    placed_same e = record { counted = rw e was.counted; few = omega (arith, was.few) }
+  pub placed_same : Passed kinds i → PlacedBelow kinds first place (i + 1)
+  placed_same e = record { counted = rw e was.counted; few = omega (arith, was.few) }
 
 -- the entries of the devices among the first i components are written, from a place on
 pub record ListedBelow {A : Type 0} (f : ℕ → A) (kinds : List ℕ) (first : ℕ) (old now : List A) (i : ℕ) : Type 0 where
@@ -57,17 +57,17 @@ module _ {A : Type 0} (f : ℕ → A) (kinds : List ℕ) (first : ℕ) (old : Li
   unfolding device_positions indices from keep
   listed_none = record { content = sym (from-none old first); size = refl }
 
-  module _ (now : List A) (i : ℕ) (was : ListedBelow f kinds first old now i) where
-    pub listed_more : Taken kinds i → (place : ℕ) → PlacedBelow kinds first place i → place < length old → (x : A) → x ≡ f i → ListedBelow f kinds first old (set now place x) (i + 1)
-    listed_more e place p h x q = record {
-      content =
-          let n : place ≡ first + length (map f (device_positions kinds i)) = omega (arith, p.counted, length-map (device_positions kinds i) f) in
-          rw (was.content, q, n, e, map-append f (device_positions kinds i) (i ∷ [])) (from_more old (map f (device_positions kinds i)) first (f i) (omega arith));
-      size = length-set now place x ∙ was.size;
-    }
+module _ {A : Type 0} {f : ℕ → A} {kinds : List ℕ} {first : ℕ} {old now : List A} {i : ℕ} (was : ListedBelow f kinds first old now i) where
+  pub listed_more : Taken kinds i → {place : ℕ} → PlacedBelow kinds first place i → place < length old → {x : A} → x ≡ f i → ListedBelow f kinds first old (set now place x) (i + 1)
+  listed_more e {place} p h {x} q = record {
+    content =
+        let n : place ≡ first + length (map f (device_positions kinds i)) = omega (arith, p.counted, length-map (device_positions kinds i) f) in
+        rw (was.content, q, n, e, map-append f (device_positions kinds i) (i ∷ [])) (from_more old (map f (device_positions kinds i)) first (f i) (omega arith));
+    size = length-set now place x ∙ was.size;
+  }
 
-    pub listed_same : Passed kinds i → ListedBelow f kinds first old now (i + 1)
-    listed_same e = record { content = rw e was.content; size = was.size }
+  pub listed_same : Passed kinds i → ListedBelow f kinds first old now (i + 1)
+  listed_same e = record { content = rw e was.content; size = was.size }
 
 -- list 1 before and after the first i components are gone through
 pub record DevicesBelow (c : Components) (old now : DeviceLists) (i : ℕ) : Type 0 where

@@ -4,10 +4,9 @@ use Rattle.rules.specs.Lists.{keep, indices, written, written_from}
 use Rattle.rules.specs.Kinds.{kind_row, component_delay, edge_timing, is_device}
 use Rattle.rules.specs.Codes.{behavior_code}
 use Rattle.rules.specs.Describe.{meaning_code, DescribeLists}
-use Rattle.rules.specs.Refusals.{scene_limits, shortest}
+use Rattle.rules.specs.Refusals.{shortest}
 use Rattle.rules.specs.Ordered.{key_at}
 use Rattle.rules.specs.declared.kinds.EdgeTiming.{EdgeTiming}
-use Rattle.rules.specs.declared.answers.Description.{Description}
 use Rattle.rules.specs.declared.lent.Components.{Components}
 use Rattle.rules.specs.declared.lent.Connections.{Connections}
 use Rattle.rules.specs.declared.lent.Scene.{Scene}
@@ -101,6 +100,12 @@ pub record EvidenceFits (n : ℕ) (lists : EvidenceLists) : Type 0 where
   pub components_room : n ≤ length lists.components.now
   pub blocks_room : n ≤ length lists.blocks.now
 
+-- a scene, and room for an entry of each connection and of each component
+pub record EvidenceRoom (s : Scene) (lists : EvidenceLists) : Type 0 where
+  pub kinds_length : length s.components.kinds.now ≡ length s.components.ids.now
+  pub pairs : length s.connections.sinks.now ≡ length s.connections.sources.now
+  pub fits : EvidenceFits (length s.connections.sources.now + length s.components.ids.now) lists
+
 -- an entry for each connection
 pub record ConnectionsListed (n : Connections) (old new : EvidenceLists) : Type 0 where
   pub kinds : new.kinds.now ≡ written old.kinds.now (replicate (length n.sources.now) 0)
@@ -132,29 +137,6 @@ description_room o =
     ∷ shortest (length o.device_components ∷ length o.device_xs ∷ length o.device_ys ∷ length o.device_zs ∷ length o.device_semantics ∷ length o.device_delays ∷ [])
     ∷ shortest (length o.evidence_kinds ∷ length o.evidence_sources ∷ length o.evidence_sinks ∷ length o.evidence_components ∷ length o.evidence_blocks ∷ [])
     ∷ []
-
--- the edges of an accepted scene, and room for what is said of it
-pub record DescriptionRoom (s : Scene) (edges : Edges) (lists : DescriptionLists) : Type 0 where
-  pub edges_room : EdgeRoom s.components edges lists.edges
-  pub devices_room : DeviceRoom s.components lists.devices
-  pub pairs : length s.connections.sinks.now ≡ length s.connections.sources.now
-  pub evidence_room : EvidenceFits (length s.connections.sources.now + length s.components.ids.now) lists.evidence
-  pub components_few : length s.components.ids.now ≤ scene_limits.components
-  pub connections_few : length s.connections.sources.now ≤ scene_limits.connections
-
-pub record DescriptionListed (s : Scene) (edges : Edges) (old new : DescriptionLists) : Type 0 where
-  pub edges_listed : EdgesListed s.components edges old.edges new.edges
-  pub devices_listed : DevicesListed s.components old.devices new.devices
-  pub evidence_listed : EvidenceListed s old.evidence new.evidence
-
--- how many entries there are of each
-abbrev pub description_of : Scene → Edges → Description
-description_of s edges =
-    record {
-      timed_edges = length edges.sources.now;
-      devices = length (devices_of s.components);
-      evidence = length s.connections.sources.now + length (devices_of s.components);
-    }
 
 -- the lists of the call in one struct
 abbrev pub grouped : TimedEdgeLists → DeviceLists → EvidenceLists → DescriptionLists

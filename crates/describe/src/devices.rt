@@ -15,6 +15,7 @@ pub(crate) fn list_devices(components: &Components<'_>, devices: &mut DeviceList
     ensures few { result ≤ length components.now.ids.now }
 {
     let mut count = 0;
+    // one index, of the five lists that are read beside the kinds; the count, which is the answer, rises with devices alone
     for (i, &kind) in components.kinds.iter().enumerate() {
         if is_device(kind) {
             devices.components[count] = components.ids[i];

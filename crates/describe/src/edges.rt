@@ -18,11 +18,14 @@ const UNTIMED: EdgeTiming = EdgeTiming {
 };
 
 // Writes what the edges out of each component take from it: the table is read once for each component, not for each edge.
+// fill_delays of reasons goes alike: one function for both would take the look-up as a closure, with clauses on what it
+// answers, and be no plainer.
 fn fill_timings(components: &Components<'_>, timings: &mut [EdgeTiming])
     requires aligned { length components.now.delays.now ≡ length components.now.kinds.now }
     requires room { length components.now.kinds.now ≤ length timings.old }
     ensures { timings.new ≡ written timings.old (map (timing_at_position components.now.kinds.now components.now.delays.now) (indices (length components.now.kinds.now))) }
 {
+    // by index: of entries that `timings.iter_mut().zip(..)` lends, a proof knows nothing once the loop is over
     for (i, &kind) in components.kinds.iter().enumerate() {
         timings[i] = edge_timing(kind, components.delays[i]);
     }
@@ -41,6 +44,7 @@ pub(crate) fn list_timed_edges(
 {
     let mut timings = [UNTIMED; MAX_COMPONENTS];
     fill_timings(components, &mut timings);
+    // one index, of the sink and of the five lists that are written
     for (e, &start) in edges.sources.iter().enumerate() {
         let stop = edges.sinks[e];
         let timing = timings[start];

@@ -1,9 +1,8 @@
 // List 2: evidence from connections, then from devices.
-ghost use Rattle.std.specs.Prelude.{◌≡◌, ◌+◌, ◌≤◌, length};
+ghost use Rattle.std.specs.Prelude.{◌≡◌, ◌+◌, length};
 ghost use Rattle.rules.specs.Lent.{SameEvidence};
-ghost use Rattle.describe.specs.Rows.{evidence_kind_code, devices_of, EvidenceFits, ConnectionsListed, DeviceEvidenceListed, EvidenceListed};
+ghost use Rattle.describe.specs.Rows.{evidence_kind_code, devices_of, EvidenceFits, EvidenceRoom, ConnectionsListed, DeviceEvidenceListed, EvidenceListed};
 
-use crate::fronts::{copy_front, fill_front};
 use rules::lent::{Components, Connections, EvidenceLists, Scene};
 use tables::kinds::is_device;
 
@@ -23,6 +22,7 @@ impl From<EvidenceKind> for u8 {
 }
 
 // Writes an entry for each connection: its ends, as they are given.
+#[tactic(auto, unfolding(rules::specs::Lists::written_from))]
 fn list_connection_evidence(connections: &Connections<'_>, evidence: &mut EvidenceLists<'_>)
     requires pairs { length connections.now.sinks.now ≡ length connections.now.sources.now }
     requires fits { EvidenceFits (length connections.now.sources.now) evidence.old }
@@ -30,15 +30,17 @@ fn list_connection_evidence(connections: &Connections<'_>, evidence: &mut Eviden
     ensures listed { ConnectionsListed connections.now evidence.old evidence.new }
 {
     let m = connections.sources.len();
-    fill_front(
-        m,
-        u8::from(EvidenceKind::VerifiedPhysicalConnection),
-        evidence.kinds,
-    );
-    copy_front(connections.sources, evidence.sources);
-    copy_front(connections.sinks, evidence.sinks);
-    fill_front(m, 0, evidence.components);
-    fill_front(m, 0, evidence.blocks);
+    // lent on one by one: of a part of `evidence.kinds` itself, a proof knows the length and not the entries
+    let kinds = &mut *evidence.kinds;
+    let sources = &mut *evidence.sources;
+    let sinks = &mut *evidence.sinks;
+    let components = &mut *evidence.components;
+    let blocks = &mut *evidence.blocks;
+    kinds[..m].fill(u8::from(EvidenceKind::VerifiedPhysicalConnection));
+    sources[..m].copy_from_slice(connections.sources);
+    sinks[..m].copy_from_slice(connections.sinks);
+    components[..m].fill(0);
+    blocks[..m].fill(0);
 }
 
 // Writes an entry for each device, from a place on.
@@ -48,13 +50,14 @@ fn list_device_evidence(components: &Components<'_>, first: usize, evidence: &mu
     ensures same { SameEvidence evidence.old evidence.new }
     ensures listed { DeviceEvidenceListed components.now first evidence.old evidence.new }
 {
+    // the devices that `list_devices` finds too: a filter numbered from `first` on is no plainer than the test and the place
     let mut place = first;
-    for (i, &kind) in components.kinds.iter().enumerate() {
+    for (&id, &kind) in components.ids.iter().zip(components.kinds) {
         if is_device(kind) {
             evidence.kinds[place] = u8::from(EvidenceKind::DeviceSemantics);
             evidence.sources[place] = 0;
             evidence.sinks[place] = 0;
-            evidence.components[place] = components.ids[i];
+            evidence.components[place] = id;
             evidence.blocks[place] = kind;
             place += 1;
         }
@@ -63,9 +66,7 @@ fn list_device_evidence(components: &Components<'_>, first: usize, evidence: &mu
 
 // Writes list 2: connections first, then devices, in component order.
 pub(crate) fn list_evidence(scene: &Scene<'_>, evidence: &mut EvidenceLists<'_>)
-    requires kinds { length scene.now.components.kinds.now ≡ length scene.now.components.ids.now }
-    requires pairs { length scene.now.connections.sinks.now ≡ length scene.now.connections.sources.now }
-    requires fits { EvidenceFits (length scene.now.connections.sources.now + length scene.now.components.ids.now) evidence.old }
+    requires { EvidenceRoom scene.now evidence.old }
     ensures same { SameEvidence evidence.old evidence.new }
     ensures listed { EvidenceListed scene.now evidence.old evidence.new }
 {

@@ -4,5 +4,4 @@
 mod edges; // edges.rt: list 0, from the edges over positions
 mod devices; // devices.rt: list 1
 mod evidence; // evidence.rt: list 2
-mod fronts; // fronts.rt: the fronts of lists, filled or copied to
 pub mod describe; // describe.rt: the call

@@ -1,12 +1,12 @@
 // Events as a lent list of records.
-ghost use Rattle.std.specs.Prelude.{◌≡◌, length, map, cond};
+ghost use Rattle.std.specs.Prelude.{◌≡◌, ◌≤◌, length, cond};
 ghost use Rattle.rules.specs.Refusals.{lengths_differ};
-ghost use Rattle.rules.specs.Lent.{contracts_lent, findings_lent, SameFindings};
+ghost use Rattle.rules.specs.Lent.{events_lent, contracts_lent, findings_lent, SameFindings};
 ghost use Rattle.rules.specs.Traces.{trace_limits, trace_lists, contract_lengths, TraceCall};
 ghost use Rattle.rules.specs.declared.answers.RefusalKind.TheVariants.{LengthsDiffer, TooManyEvents};
 ghost use Rattle.events.specs.Records.{events_of_records};
 
-use rules::answers::{Refusal, RefusalKind};
+use rules::answers::{RecordKind, Refusal, RefusalKind};
 use rules::lent::{Contracts, Events, Findings, Trace};
 use rules::limits::MAX_EVENTS;
 use rules::transient::TransientAssessment;
@@ -29,7 +29,7 @@ fn too_many(count: usize, contracts: &Contracts<'_>) -> Refusal
     if contracts_differ(contracts) {
         Refusal {
             kind: RefusalKind::LengthsDiffer,
-            place: 3,
+            place: RecordKind::Contracts as u64,
         }
     } else {
         Refusal {
@@ -39,24 +39,32 @@ fn too_many(count: usize, contracts: &Contracts<'_>) -> Refusal
     }
 }
 
-// Writes the numbers of each record, list by list.
-fn read_events(
-    events: &[BehaviorEvent],
-    ticks: &mut [u64],
-    components: &mut [u64],
-    powered: &mut [u8],
-)
-    requires ticks { length ticks.old ≡ length events.now }
-    requires components { length components.old ≡ length events.now }
-    requires powered { length powered.old ≡ length events.now }
-    ensures ticks { ticks.new ≡ map (λ e. e.tick) events.now }
-    ensures components { components.new ≡ map (λ e. e.component) events.now }
-    ensures powered { powered.new ≡ map (λ e. e.powered) events.now }
-{
-    for (i, event) in events.iter().enumerate() {
-        ticks[i] = event.tick;
-        components[i] = event.component;
-        powered[i] = event.powered;
+// Room for the number lists of as many events as a trace may have, a list for each field, as the call on lists is lent them.
+#[derive(Drop)]
+struct EventRoom {
+    ticks: [u64; MAX_EVENTS],
+    components: [u64; MAX_EVENTS],
+    powered: [u8; MAX_EVENTS],
+}
+
+impl EventRoom {
+    // Writes the numbers of each record to the fronts of the lists, and answers these.
+    fn read(&mut self, events: &[BehaviorEvent]) -> Events<'_>
+        requires { length events.now ≤ MAX_EVENTS }
+        ensures { events_lent result ≡ events_of_records events.now }
+    {
+        // By index: a proof knows nothing of lists that a zip over iter_mut writes.
+        for (i, event) in events.iter().enumerate() {
+            self.ticks[i] = event.tick;
+            self.components[i] = event.component;
+            self.powered[i] = event.powered;
+        }
+        let count = events.len();
+        Events {
+            ticks: &self.ticks[..count],
+            components: &self.components[..count],
+            powered: &self.powered[..count],
+        }
     }
 }
 
@@ -74,22 +82,14 @@ pub fn assess_events(
     if MAX_EVENTS < count {
         return Err(too_many(count, contracts));
     }
-    let mut ticks = [0u64; MAX_EVENTS];
-    let mut components = [0u64; MAX_EVENTS];
-    let mut powered = [0u8; MAX_EVENTS];
-    read_events(
-        events,
-        &mut ticks[..count],
-        &mut components[..count],
-        &mut powered[..count],
-    );
+    let mut room = EventRoom {
+        ticks: [0; MAX_EVENTS],
+        components: [0; MAX_EVENTS],
+        powered: [0; MAX_EVENTS],
+    };
     let trace = Trace {
         unit,
-        events: Events {
-            ticks: &ticks[..count],
-            components: &components[..count],
-            powered: &powered[..count],
-        },
+        events: room.read(events),
         contracts: *contracts,
     };
     assess_transients(&trace, findings)

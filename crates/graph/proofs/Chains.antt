@@ -10,8 +10,11 @@ use borrow.Author.Tests.{ltb-true, lt-ltb, le-ltb, eq-eqb, ne_eqb}
 use lib.Dec.{eqb, ltb}
 use lib.ListN.{length, get_or, set, replicate, length-set, get_or-replicate}
 use lib.Seq.{get_or-set_other, get_or-set_same}
+use Rattle.std.specs.Prelude.{Some, None}
 use Rattle.rules.specs.Lists.{keep, from, indices}
 use Rattle.rules.proofs.Indices.{from_next, from_end}
+use Rattle.graph.specs.declared.chain.Chain.{Chain}
+use Rattle.graph.specs.Chained.{chain_steps}
 use Rattle.graph.specs.Adjacency.{follow, chain, leaving, Rises, ends, Indexed}
 
 -- from lo on each link leads to a later edge
@@ -149,3 +152,11 @@ module _ (sources head next : List ℕ) (i s : ℕ) (at : get_or sources i 0 ≡
 
 pub linked-whole : (sources head next : List ℕ) → length next ≡ length sources → LinkedFrom 0 sources head next → Indexed sources head next
 linked-whole sources head next size was = record { links = size; rises = λ e lt. was.up e (omega arith) lt; lists = λ u h. was.lists u h ∙ leaving-whole sources u }
+
+-- one step along a chain of links that are known
+module _ (next : List ℕ) (s : Chain) (same : s.next.now ≡ next) where
+  pub step-on : (e : ℕ) (t : Chain) → chain_steps s (Some e) t → (e < length next) × (s.at ≡ e) × (t.next.now ≡ next) × (t.at ≡ get_or next e 0)
+  step-on e t h = (omega (arith, h.1.0, h.1.1, ap length same), sym h.1.0, h.0 ∙ same, h.1.2 ∙ ap (λ l. get_or l s.at 0) same ∙ ap (λ k. get_or next k 0) (sym h.1.0))
+
+  pub step-end : (t : Chain) → chain_steps s None t → length next ≤ s.at
+  step-end t h = omega (arith, h.1, ap length same)

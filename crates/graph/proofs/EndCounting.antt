@@ -35,16 +35,19 @@ module _ (ends : List ℕ) (size : ℕ) where
     counting-few v h =
         omega (arith, c.so_far v h, count_under (λ x. eqb x v) (λ x. true) (take e ends) (λ x m t. tt), count-every (take e ends), length-take e ends)
 
-    pub counting_more : (u : ℕ) → get_or ends e 0 ≡ u → e < length ends → u < size → Counting ends size (set counts u (get_or counts u 0 + 1)) (e + 1)
+    more : (v : ℕ) → e < length ends → count (λ x. eqb x v) (take (e + 1) ends) ≡ count (λ x. eqb x v) (take e ends) + cond (eqb (get_or ends e 0) v) 1 0
     unfolding count
-    counting_more u q h k = record {
+    more v h = rw (add-one e, take-suc ends e 0 h) (count-append (λ x. eqb x v) (take e ends) (get_or ends e 0 ∷ []))
+
+    pub counting_more : e < length ends → get_or ends e 0 < size → Counting ends size (set counts (get_or ends e 0) (get_or counts (get_or ends e 0) 0 + 1)) (e + 1)
+    counting_more h k = record {
       inside = omega arith;
       kept = length-set counts u (get_or counts u 0 + 1) ∙ c.kept;
-      so_far = λ v i. sum v (omega (arith, length-set counts u (get_or counts u 0 + 1))) ∙ sym (more v);
+      so_far = λ v i. sum v (omega (arith, length-set counts u (get_or counts u 0 + 1))) ∙ sym (more v h);
     }
       where
-        more : (v : ℕ) → count (λ x. eqb x v) (take (e + 1) ends) ≡ count (λ x. eqb x v) (take e ends) + cond (eqb u v) 1 0
-        more v = rw (add-one e, take-suc ends e 0 h, q) (count-append (λ x. eqb x v) (take e ends) (u ∷ []))
+        u : ℕ
+        u = get_or ends e 0
 
         sum : (v : ℕ) → v < length counts → get_or (set counts u (get_or counts u 0 + 1)) v 0 ≡ count (λ x. eqb x v) (take e ends) + cond (eqb u v) 1 0
         sum v i = go (ℕ_discrete v u)
@@ -52,3 +55,11 @@ module _ (ends : List ℕ) (size : ℕ) where
             go : Dec (v ≡ u) → get_or (set counts u (get_or counts u 0 + 1)) v 0 ≡ count (λ x. eqb x v) (take e ends) + cond (eqb u v) 1 0
             go (yes p) = rw (p, get_or-set_same counts u (get_or counts u 0 + 1) 0 (omega (arith, c.kept)), eq-eqb u u refl) (ap (λ k. k + 1) (c.so_far u (omega (arith, c.kept))))
             go (no p) = rw (get_or-set_other counts u v (get_or counts u 0 + 1) 0 p, ne_eqb u v (λ r. p (sym r))) (omega (arith, c.so_far v i))
+
+    -- an end that is no node changes no count
+    pub counting-skip : e < length ends → size ≤ get_or ends e 0 → Counting ends size counts (e + 1)
+    counting-skip h k = record {
+      inside = omega arith;
+      kept = c.kept;
+      so_far = λ v i. c.so_far v i ∙ sym (more v h ∙ rw (ne_eqb (get_or ends e 0) v (λ q. omega (arith, c.kept))) (omega arith));
+    }

@@ -1,12 +1,13 @@
 -- The loop over the order of the visits, and the groups that it ends with. Assumes nothing.
-use mathlib.Core.List.{List, ◌∷◌, [], Memᴰ}
-use mathlib.Core.Path.{◌≡◌, refl, sym, subst, ◌∙◌}
-use Prim.Native.Nat.{ℕ, suc, ◌-◌, ◌<◌, ◌≤◌}
+use mathlib.Core.List.{List, ◌∷◌, [], ◌++◌, Memᴰ}
+use mathlib.Core.Path.{◌≡◌, refl, sym, ap, subst, ◌∙◌}
+use Prim.Native.Nat.{ℕ, suc, ◌+◌, ◌-◌, ◌<◌, ◌≤◌}
 use native.Mathlib.Nat.{zero-add}
 use native.Mathlib.Omega.{arith}
 use lib.Dec.{eqb→eq}
-use lib.ListN.{length, get_or, take, drop}
-use lib.Seq.{split_at, drop-cons, drop-length}
+use lib.ListN.{length, get_or, take, drop, get_or-append}
+use lib.Seq.{split_at, drop-cons, drop-length, length-take-le, get_or-take, get_or-append_seam}
+use Rattle.std.proofs.lemmas.List.{length-append}
 use Rattle.rules.specs.Lists.{indices}
 use Rattle.rules.specs.Graph.{Edge, edges_between}
 use Rattle.rules.proofs.Indices.{at_mem, below-indices}
@@ -53,6 +54,12 @@ pub record Sweeping (sources sinks head next order s g : List ℕ) (i : ℕ) : T
   pub half : Halfway (edges_between sources sinks) (length head) (drop i out) s g
   pub marks : length s ≡ length head
   pub groups : length g ≡ length head
+
+-- the same, where the nodes that are left stand at the front of an order
+pub record SweepingLeft (sources sinks head next left s g : List ℕ) : Type 0 where
+  pub order : List ℕ
+  pub front : (k : ℕ) → k < length left → get_or left k 0 ≡ get_or order k 0
+  pub sweeping : Sweeping sources sinks head next order s g (length left)
 
 -- the first pass is done, and nothing taken yet
 module _ (sources sinks head₁ next₁ head next : List ℕ) (edges : Between sources sinks (length head)) (heads : length head₁ ≡ length head) (index₁ : Indexed sources head₁ next₁) (index : Indexed sinks head next) where
@@ -164,3 +171,48 @@ module _ {sources sinks head next order s g : List ℕ} (i : ℕ) (w : Sweeping 
           (λ t. let m = mutual-trans (own x xn) (mutual-sym (subst (Mutual _ y) (sym (eqb→eq _ _ t)) (own y yn))) in →connected _ x y m.0 m.1)
           (λ t. eq_test (sym (w.half.whole x y xn yn (seen x xn) (connected→ _ x y t)).1));
     }
+
+-- the last of the nodes that are left is taken
+module _ {sources sinks head next left s g : List ℕ} (w : SweepingLeft sources sinks head next left s g) (rest : List ℕ) (x : ℕ) (last : left ≡ rest ++ (x ∷ [])) where
+  size : length left ≡ length rest + 1
+  size = omega (arith, ap length last, length-append rest (x ∷ []))
+
+  taken : get_or w.order (length left - 1) 0 ≡ x
+  taken = sym (w.front (length left - 1) (omega (arith, size))) ∙ ap (λ k. get_or left k 0) (let n : length left - 1 ≡ length rest = omega (arith, size) in n) ∙ ap (λ l. get_or l (length rest) 0) last ∙ get_or-append_seam rest x [] 0
+
+  front : (k : ℕ) → k < length rest → get_or rest k 0 ≡ get_or w.order k 0
+  front k h = sym (get_or-append rest (x ∷ []) 0 k h) ∙ ap (λ l. get_or l k 0) (sym last) ∙ w.front k (omega (arith, size))
+
+  left-over : {s' g' : List ℕ} → Sweeping sources sinks head next w.order s' g' (length left - 1) → SweepingLeft sources sinks head next rest s' g'
+  left-over {s'} {g'} v = record {
+    order = w.order;
+    front = front;
+    sweeping = subst (Sweeping sources sinks head next w.order s' g') (let n : length left - 1 ≡ length rest = omega (arith, size) in n) v;
+  }
+
+  some : 0 < length left
+  some = omega (arith, size)
+
+  pub left-node : x < length head
+  left-node = subst (λ k. k < length head) taken (sweep-node (length left) w.sweeping some)
+
+  pub left-open : Open head next sources s g
+  left-open = sweep-open (length left) w.sweeping
+
+  pub left-old : Seen s x → SweepingLeft sources sinks head next rest s g
+  left-old h = left-over (sweep-old (length left) w.sweeping some (subst (Seen s) (sym taken) h))
+
+  pub left-new : Unseen s x → {s' g' : List ℕ} → Collected head next sources (x ∷ []) s g x s' g' → SweepingLeft sources sinks head next rest s' g'
+  left-new h {s'} {g'} c = left-over (sweep-new (length left) w.sweeping some (subst (Unseen s) (sym taken) h) (subst (λ k. Collected head next sources (k ∷ []) s g k s' g') (sym taken) c))
+
+-- there is room for the nodes that were visited
+pub visited-room : {head next sinks us s order s' order' : List ℕ} {r : ℕ} → Visited head next sinks us s order 0 s' order' r → r ≤ length order'
+visited-room {order} v = let n = written-length order v.out in rw v.written (omega (arith, v.result, n))
+
+-- the order of the visits is left at first
+pub all-left : {sources sinks head next order s g : List ℕ} {r : ℕ} → r ≤ length order → Sweeping sources sinks head next order s g r → SweepingLeft sources sinks head next (take r order) s g
+all-left {sources} {sinks} {head} {next} {order} {s} {g} {r} h v = record {
+  order = order;
+  front = λ k b. get_or-take r order k 0 (omega (arith, length-take-le r order h));
+  sweeping = subst (Sweeping sources sinks head next order s g) (sym (length-take-le r order h)) v;
+}

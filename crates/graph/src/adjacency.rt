@@ -1,5 +1,6 @@
 // Edges linked by the node that they leave: head[u] is the first edge that leaves u and next[e] the one after e, each
 // past the last edge if there is none.
+// Two lent arrays, and no list for each node: there is no heap, and together they have an entry for each node and each edge.
 ghost use Rattle.std.specs.Prelude.{◌<◌, ◌≡◌, length, replicate};
 ghost use Rattle.graph.specs.Adjacency.{Below, Indexed};
 ghost use Rattle.graph.specs.Fits.{EdgesIndexed, ends_below};
@@ -39,8 +40,7 @@ fn link_edges(sources: &[usize], head: &mut [usize], next: &mut [usize])
     requires { (length next.old ≡ length sources.now) × Below (length head.old) sources.now × (head.old ≡ replicate (length head.old) (length sources.now)) }
     ensures { Indexed sources.now head.new next.new }
 {
-    for e in (0..sources.len()).rev() {
-        let u = sources[e];
+    for (e, &u) in sources.iter().enumerate().rev() {
         next[e] = head[u];
         head[u] = e;
     }

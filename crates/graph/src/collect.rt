@@ -16,13 +16,11 @@ pub(crate) fn collect(
     ensures { CollectedAlong links.now (u ∷ []) marks.old group.old root marks.new group.new }
 {
     marks[u] = 1;
-    let mut e = links.head[u];
-    while e < links.next.len() {
+    for e in links.chain(links.head[u]) {
         let v = links.ends[e];
         if marks[v] == 0 {
             collect(links, marks, group, root, v);
         }
-        e = links.next[e];
     }
     group[u] = root;
 }

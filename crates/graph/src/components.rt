@@ -10,6 +10,8 @@ use crate::visit_order::visit_order;
 
 // Gives each node a node of its strongly connected component, one and the same for all of them. The visits' order is
 // taken from its end, and what is collected goes along the edges backwards: only then is it one component each time.
+// The lists come one by one, head, next and group cut to the graph: from the room's struct each pass would cut its part anew,
+// since head and next are made twice, which is no plainer.
 pub(crate) fn strongly_connected_components(
     edges: &Edges<'_>,
     marks: &mut [u8],
@@ -36,8 +38,7 @@ pub(crate) fn strongly_connected_components(
         next,
         ends: edges.sources,
     };
-    for i in (0..count).rev() {
-        let root = order[i];
+    for &root in order[..count].iter().rev() {
         if marks[root] == 0 {
             collect(&backwards, marks, group, root, root);
         }

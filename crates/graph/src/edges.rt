@@ -1,4 +1,7 @@
 // The edges of a graph whose nodes are numbers, and the links along which their ends are followed.
+ghost use Rattle.std.specs.Prelude.{◌≡◌};
+
+use crate::chain::Chain;
 
 // Edge e leads from sources[e] to sinks[e].
 #[derive(Clone, Copy)]
@@ -14,6 +17,18 @@ pub(crate) struct Links<'a> {
     pub head: &'a [usize],
     pub next: &'a [usize],
     pub ends: &'a [usize],
+}
+
+impl<'a> Links<'a> {
+    // The edges linked from first on.
+    pub(crate) fn chain(&self, first: usize) -> Chain<'a>
+        ensures { (result.next.now ≡ self.now.next.now) × (result.at ≡ first) }
+    {
+        Chain {
+            next: self.next,
+            at: first,
+        }
+    }
 }
 
 // Lists to work in: head, order and group have an entry for each node at least, and next one for each edge.

@@ -11,6 +11,7 @@ use crate::edges::{Edges, GroupRoom};
 
 pub mod edges; // edges.rt: the edges of a graph, and room to work in
 pub mod adjacency; // adjacency.rt: edges linked by the node that they leave
+pub mod chain; // chain.rt: the edges on a chain of links
 pub mod end_counts; // end_counts.rt: how often each node is an end
 mod visit_order; // visit_order.rt: depth-first visits, and the order in which they leave the nodes
 mod collect; // collect.rt: what a node reaches through nodes not seen yet
@@ -19,7 +20,8 @@ mod components; // components.rt: a group for each strongly connected component,
 // Marks each node of the graph with the edges sources[e] → sinks[e]: 1 if a different node is in its strongly connected
 // component, else 0. There is a node for each entry of marks. The lists must fit: as many sinks as sources, each end a
 // node, and room for the work. If they do not, the answer is false and every list keeps its content. If they do, what the
-// room holds afterwards is open. Calls nest as deep as a path of the graph is long, two for each node on it.
+// room holds afterwards is open. Calls nest as deep as a path of the graph is long, two for each node on it. Marks are bytes,
+// as list 5 of the C interface is.
 #[tactic(auto, using(crate::proofs::Fitting::fitting))]
 pub fn mark_shared_components(edges: &Edges<'_>, marks: &mut [u8], room: &mut GroupRoom<'_>) -> bool
     ensures same { SameRoom room.old room.new }

@@ -6,7 +6,9 @@ ghost use Rattle.graph.specs.Visits.{Visitable, VisitedAlong};
 
 use crate::edges::Links;
 
-// Visits every node in turn, from marks that are the seen nodes, and answers how many nodes it wrote to order.
+// Visits every node in turn, from marks that are the seen nodes, and answers how many nodes it wrote to order. The lists come
+// one by one: each visit of a struct of them would have to promise besides that its links are the same, which is no plainer.
+// The count stands beside order, since there is no heap.
 pub(crate) fn visit_order(links: &Links<'_>, marks: &mut [u8], order: &mut [usize]) -> usize
     requires { Visitable links.now marks.old order.old 0 }
     ensures { VisitedAlong links.now (indices (length links.now.head.now)) marks.old order.old 0 marks.new order.new result }
@@ -46,14 +48,12 @@ fn walk(
     ensures { VisitedAlong links.now (ends links.now.next.now links.now.ends.now first) marks.old order.old count marks.new order.new result }
 {
     let mut done = count;
-    let mut e = first;
-    while e < links.next.len() {
+    for e in links.chain(first) {
         let v = links.ends[e];
         // the same where it was seen: most edges lead there, and a call would take longer than this test
         if marks[v] == 0 {
             done = visit(links, marks, order, done, v);
         }
-        e = links.next[e];
     }
     done
 }

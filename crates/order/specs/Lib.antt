@@ -1,3 +1,4 @@
--- What a sort of positions and a search in them promise:
+-- What a sort of positions, a search in them and a test of their keys promise:
 pub mod Sorted
 pub mod Searched
+pub mod Rising

@@ -1,6 +1,7 @@
-// Positions ordered by their keys: a sort, and a search in what it answers.
+// Positions ordered by their keys: a sort, a search in what it answers, and whether keys rise along a row.
 #![tactic(auto)]
 
 mod keys; // keys.rt: the key at a position
 pub mod sort; // sort.rt: the positions of a list of keys, ordered by key and then by position
 pub mod search; // search.rt: the first position of a key
+pub mod rising; // rising.rt: whether keys rise along a row of positions

@@ -14,8 +14,8 @@ pub fn find_position(keys: &[u64], order: &[usize], key: u64) -> Option<usize>
     (found == key).then_some(position)
 }
 
-// Where the keys rise, answers the position of the key, or that no position has it. Where they don't, a position that is answered
-// still has the key, but a key may be missed.
+// Where the keys rise, answers the position of the key, or that no position has it. Where they don't, a position that is
+// answered still has the key, but a key may be missed.
 pub fn find_rising(keys: &[u64], key: u64) -> Option<usize>
     ensures { SearchedRising keys.now key result }
 {

@@ -1,5 +1,5 @@
--- The call: what it lends on to the passes, and what it answers. Assumes nothing.
-use mathlib.Core.Bool.{Bool, true, false, not}
+-- The lists fit: what is lent on to the passes, and what they leave. Assumes nothing.
+use mathlib.Core.Bool.{Bool, not}
 use mathlib.Core.List.{List, [], ◌∷◌, ◌++◌, map, map-map, flat_map, Memᴰ}
 use mathlib.Core.Path.{◌≡◌, refl, sym, ap, subst, ◌∙◌}
 use Prim.Native.Nat.{ℕ, ◌*◌, ◌≤◌}
@@ -7,7 +7,6 @@ use native.Mathlib.Omega.{arith}
 use lib.Dec.{T, T_not}
 use lib.ListN.{length, take, drop, length-append, length-map}
 use lib.Seq.{length-take-le}
-use Rattle.std.specs.Prelude.{Some, None}
 use Rattle.rules.specs.Lists.{keep, written, Distinct}
 use Rattle.rules.specs.Ordered.{key_at}
 use Rattle.rules.specs.Positions.{named_entry, id_at}
@@ -17,11 +16,11 @@ use Rattle.rules.proofs.Lists.{keep_out, flat_out}
 use Rattle.rules.proofs.Written.{written-parts, written-front, from-length}
 use Rattle.graph.specs.Adjacency.{leaving}
 use Rattle.projection.specs.Entries.{node_marks, inverts_from, projected_entries}
-use Rattle.projection.specs.Projecting.{NodeLists, ProjectedLists, WorkLists, edges_of, entries_of, projection_fits, ProjectionCall}
+use Rattle.projection.specs.Projecting.{NodeLists, ProjectedLists, WorkLists, edges_of, entries_of, Fitted, Projecting}
 use Rattle.projection.specs.Marking.{through, firsts_by, Retainable, Retaining}
 use Rattle.projection.specs.Walking.{Net, net, net_edges, edge_at, chain_of, entry_of, entries_from, Walkable, FirstEdge, Fillable, Filled}
 use Rattle.projection.proofs.NodeScenes.{firsts-few, paths-short}
-use Rattle.projection.proofs.FitSteps.{Fitted, fitted, distinct-rising}
+use Rattle.projection.proofs.FitSteps.{distinct-rising}
 use Rattle.projection.proofs.WalkSteps.{edge_count, edges-inside}
 use Rattle.projection.proofs.EdgeLists.{leaving-rows, leaving-out, next-linked}
 use Rattle.projection.proofs.RetainSteps.{marks-length, through_same, through-inside, through-in, through-out}
@@ -42,172 +41,150 @@ ids-length N (f ∷ fs) = omega (
     path : List ℕ
     path = source_of (edge_at N f) ∷ chain (length (net_edges N)) (net_edges N) (through N.marks) (sink_of (edge_at N f))
 
-module _ (l : NodeLists) (marks : List ℕ) (c : ProjectedLists) (w : WorkLists) where
-  pub call-refused : projection_fits l marks c w ≡ false → ProjectionCall l marks marks c c w w None
-  call-refused misfits = record {
-    answer = sym misfits;
-    done = tt;
-    refused = λ e. record { marks_kept = refl; lists_kept = refl; work_kept = refl };
+module _ {l : NodeLists} {marks : List ℕ} {c : ProjectedLists} {w : WorkLists} (f : Fitted l marks c w) where
+  abbrev n : ℕ
+  n = length l.ids
+
+  abbrev es : List Edge
+  es = edges_of l
+
+  marks-lent : length (take (length l.ids) marks) ≡ length l.ids
+  marks-lent = length-take-le n marks f.marked
+
+  once : Distinct l.order
+  once = distinct-rising (id_at l.ids) l.order f.rising
+
+  pub retainable : Retainable l.sources l.sinks l.compressible l.order (take (length l.ids) marks) w.head w.next w.incoming w.firsts
+  retainable = record {
+    pairs = f.pairs;
+    nodes = marks-lent ∙ sym f.kinds;
+    heads = omega (arith, f.kinds, f.heads);
+    links = f.links;
+    counts = omega (arith, f.kinds, f.counts);
+    room = f.firsts;
+    sources_below = λ k h. omega (arith, f.kinds, f.sources_below k h);
+    sinks_below = λ k h. omega (arith, f.kinds, f.sinks_below k h);
+    order_below = λ k h. omega (arith, f.kinds, f.order_below k h);
+    once = once;
   }
 
-  module _ (fits : projection_fits l marks c w ≡ true) where
-    f : Fitted l marks c w
-    f = fitted l marks c w fits
+  -- the nodes are marked, and the first edges listed
+  module _ {marks' head firsts : List ℕ} {nodes edges : ℕ} (R : Retaining l.sources l.sinks l.compressible l.order w.firsts marks' head firsts nodes edges) where
+    size : length marks' ≡ n
+    size = marks-length l.sources l.sinks l.compressible marks' R.marked ∙ f.kinds
 
-    abbrev n : ℕ
-    n = length l.ids
+    abbrev N : Net
+    N = net l.sources l.sinks marks' l.ids l.low l.high l.inverts
 
-    abbrev es : List Edge
-    es = edges_of l
+    one_in : (v : ℕ) → T (through marks' v) → in_count es v ≡ 1
+    one_in = through-in l.sources l.sinks l.compressible marks' R.marked
 
-    pub marks_room : length l.ids ≤ length marks
-    marks_room = f.marked
+    one_out : (v : ℕ) → T (through marks' v) → out_count es v ≡ 1
+    one_out = through-out l.sources l.sinks l.compressible marks' R.marked
 
-    pub marks-lent : length (take (length l.ids) marks) ≡ length l.ids
-    marks-lent = length-take-le n marks marks_room
-
-    once : Distinct l.order
-    once = distinct-rising (id_at l.ids) l.order f.rising
-
-    pub retainable : Retainable l.sources l.sinks l.compressible l.order (take (length l.ids) marks) w.head w.next w.incoming w.firsts
-    retainable = record {
+    pub walkable : Walkable (net l.sources l.sinks marks' l.ids l.low l.high l.inverts) head
+    walkable = record {
       pairs = f.pairs;
-      nodes = marks-lent ∙ sym f.kinds;
-      heads = omega (arith, f.kinds, f.heads);
-      links = f.links;
-      counts = omega (arith, f.kinds, f.counts);
-      room = f.firsts;
-      sources_below = λ k h. omega (arith, f.kinds, f.sources_below k h);
-      sinks_below = λ k h. omega (arith, f.kinds, f.sinks_below k h);
-      order_below = λ k h. omega (arith, f.kinds, f.order_below k h);
-      once = once;
+      marked = size;
+      lows = f.lows;
+      highs = f.highs;
+      flags = f.flags;
+      heads = omega (arith, R.heads, f.kinds);
+      starts = f.sources_below;
+      ends = f.sinks_below;
+      one_in = one_in;
+      one_out = one_out;
+      onward = λ v t. next-linked l.sources l.sinks f.pairs head R.links R.linked v
+          (omega (arith, through-inside l.sources l.sinks l.compressible marks' R.marked v t, R.heads)) (one_out v t);
     }
 
-    -- the nodes are marked, and the first edges listed
-    module _ (marks' head firsts : List ℕ) (nodes edges : ℕ) (R : Retaining l.sources l.sinks l.compressible l.order w.firsts marks' head firsts nodes edges) where
-      size : length marks' ≡ n
-      size = marks-length l.sources l.sinks l.compressible marks' R.marked ∙ f.kinds
+    abbrev kept : List ℕ
+    kept = keep (λ v. not (through marks' v)) l.order
 
-      abbrev N : Net
-      N = net l.sources l.sinks marks' l.ids l.low l.high l.inverts
+    abbrev first-edges : List ℕ
+    first-edges = firsts_by (leaving l.sources) marks' l.order
 
-      one_in : (v : ℕ) → T (through marks' v) → in_count es v ≡ 1
-      one_in = through-in l.sources l.sinks l.compressible marks' R.marked
+    edges_are : map (edge_at N) first-edges ≡ flat_map (λ v. keep (starts_at v) es) kept
+    unfolding firsts_by
+    edges_are = leaving-rows l.sources l.sinks f.pairs kept
 
-      one_out : (v : ℕ) → T (through marks' v) → out_count es v ≡ 1
-      one_out = through-out l.sources l.sinks l.compressible marks' R.marked
+    few : length first-edges ≤ length l.sources
+    few = omega (
+      arith,
+      length-map first-edges (edge_at N),
+      ap length edges_are,
+      firsts-few es n (edges-inside walkable) (through marks') one_in one_out l.order once,
+      edge_count walkable,
+    )
 
-      walkable : Walkable N head
-      walkable = record {
-        pairs = f.pairs;
-        marked = size;
-        lows = f.lows;
-        highs = f.highs;
-        flags = f.flags;
-        heads = omega (arith, R.heads, f.kinds);
-        starts = f.sources_below;
-        ends = f.sinks_below;
-        one_in = one_in;
-        one_out = one_out;
-        onward = λ v t. next-linked l.sources l.sinks f.pairs head R.links R.linked v
-            (omega (arith, through-inside l.sources l.sinks l.compressible marks' R.marked v t, R.heads)) (one_out v t);
-      }
+    short : length (path_ids (entries_from N first-edges)) ≤ 2 * length l.sources
+    short = omega (
+      arith,
+      ids-length N first-edges,
+      ap (λ k. length (flat_map (λ e. source_of e ∷ chain (length es) es (through marks') (sink_of e)) k)) edges_are,
+      paths-short es n (edges-inside walkable) (through marks') one_in one_out l.order once,
+      edge_count walkable,
+    )
 
-      abbrev kept : List ℕ
-      kept = keep (λ v. not (through marks' v)) l.order
+    first-is : (e : ℕ) → Memᴰ e first-edges → FirstEdge N e
+    unfolding firsts_by
+    first-is e m =
+        let r = flat_out (leaving l.sources) kept m in
+        let o = leaving-out l.sources l.sinks f.pairs r.0 e r.2 in
+        record { listed = o.0; kept = λ t. T_not (through marks' r.0) (keep_out (λ v. not (through marks' v)) l.order r.1).1 (subst (λ v. T (through marks' v)) o.1 t) }
 
-      abbrev first-edges : List ℕ
-      first-edges = firsts_by (leaving l.sources) marks' l.order
+    number_is : edges ≡ length first-edges
+    number_is = let q = R.listed.place in omega arith
 
-      edges_are : map (edge_at N) first-edges ≡ flat_map (λ v. keep (starts_at v) es) kept
-      unfolding firsts_by
-      edges_are = leaving-rows l.sources l.sinks f.pairs kept
+    number_in : edges ≤ length firsts
+    number_in = omega (arith, number_is, few, f.firsts, ap length R.listed.list, from-length w.firsts first-edges 0 (omega (arith, few, f.firsts)))
 
-      few : length first-edges ≤ length l.sources
-      few = omega (
-        arith,
-        length-map first-edges (edge_at N),
-        ap length edges_are,
-        firsts-few es n (edges-inside N head walkable) (through marks') one_in one_out l.order once,
-        edge_count N head walkable,
-      )
+    pub number-lent : edges ≡ length (take edges firsts)
+    number-lent = sym (length-take-le edges firsts number_in)
 
-      short : length (path_ids (entries_from N first-edges)) ≤ 2 * length l.sources
-      short = omega (
-        arith,
-        ids-length N first-edges,
-        ap (λ k. length (flat_map (λ e. source_of e ∷ chain (length es) es (through marks') (sink_of e)) k)) edges_are,
-        paths-short es n (edges-inside N head walkable) (through marks') one_in one_out l.order once,
-        edge_count N head walkable,
-      )
+    listed : take edges firsts ≡ first-edges
+    listed = rw R.listed.list (written-front w.firsts first-edges edges (sym number_is))
 
-      first-is : (e : ℕ) → Memᴰ e first-edges → FirstEdge N e
-      unfolding firsts_by
-      first-is e m =
-          let r = flat_out (leaving l.sources) kept m in
-          let o = leaving-out l.sources l.sinks f.pairs r.0 e r.2 in
-          record { listed = o.0; kept = λ t. T_not (through marks' r.0) (keep_out (λ v. not (through marks' v)) l.order r.1).1 (subst (λ v. T (through marks' v)) o.1 t) }
+    pub fillable : Fillable (net l.sources l.sinks marks' l.ids l.low l.high l.inverts) (take edges firsts) c
+    fillable = rw listed (record {
+      each = first-is;
+      sources = omega (arith, few, f.sources);
+      sinks = omega (arith, few, f.sinks);
+      inverted = omega (arith, few, f.inverted);
+      minimums = omega (arith, few, f.minimums);
+      maximums = omega (arith, few, f.maximums);
+      starts = omega (arith, few, f.starts);
+      lengths = omega (arith, few, f.lengths);
+      ids = omega (arith, short, f.paths);
+    })
 
-      number_is : edges ≡ length first-edges
-      number_is = let q = R.listed.place in omega arith
+    -- the entries are those of the definition
+    entries-are : entries_from N first-edges ≡ entries_of l
+    unfolding projected_entries entry_of chain_of
+    entries-are = sym (ap by (sym (through_same l.sources l.sinks l.compressible marks' R.marked))
+        ∙ map-map (named_entry (id_at l.ids)) (along (through marks')) (flat_map (λ v. keep (starts_at v) es) kept)
+        ∙ ap (map (λ e. named_entry (id_at l.ids) (along (through marks') e))) (sym edges_are)
+        ∙ map-map (λ e. named_entry (id_at l.ids) (along (through marks') e)) (edge_at N) first-edges)
+      where
+        along : (ℕ → Bool) → Edge → ProjectedEdge
+        along t e = projected_by (key_at l.low) (key_at l.high) (inverts_from l.inverts) e (source_of e ∷ chain (length es) es t (sink_of e))
 
-      number_in : edges ≤ length firsts
-      number_in = omega (arith, number_is, few, f.firsts, ap length R.listed.list, from-length w.firsts first-edges 0 (omega (arith, few, f.firsts)))
+        by : (ℕ → Bool) → List ProjectedEdge
+        by t = map (named_entry (id_at l.ids)) (map (along t) (flat_map (λ v. keep (starts_at v) es) (keep (λ v. not (t v)) l.order)))
 
-      pub number-lent : edges ≡ length (take edges firsts)
-      number-lent = sym (length-take-le edges firsts number_in)
+    all-marks : marks' ++ drop n marks ≡ written marks (node_marks es l.compressible n)
+    all-marks =
+        let q : marks' ≡ node_marks es l.compressible n = R.marked ∙ ap (node_marks es l.compressible) f.kinds in
+        ap (λ k. marks' ++ drop k marks) (sym size) ∙ ap (λ m. m ++ drop (length m) marks) q ∙ sym (written-parts marks (node_marks es l.compressible n))
 
-      listed : take edges firsts ≡ first-edges
-      listed = rw R.listed.list (written-front w.firsts first-edges edges (sym number_is))
-
-      pub ready : Walkable (net l.sources l.sinks marks' l.ids l.low l.high l.inverts) head × Fillable (net l.sources l.sinks marks' l.ids l.low l.high l.inverts) (take edges firsts) c
-      ready = rw listed (
-        walkable,
+    pub projecting : (c' : ProjectedLists) (used : ℕ) → Filled (net l.sources l.sinks marks' l.ids l.low l.high l.inverts) (take edges firsts) c c' used
+        → Projecting l marks (marks' ++ drop (length l.ids) marks) c c' (record { retained = nodes; projected = edges; path_ids = used })
+    projecting c' used F =
+        let G : Filled N first-edges c c' used = rw listed at F in
         record {
-          each = first-is;
-          sources = omega (arith, few, f.sources);
-          sinks = omega (arith, few, f.sinks);
-          inverted = omega (arith, few, f.inverted);
-          minimums = omega (arith, few, f.minimums);
-          maximums = omega (arith, few, f.maximums);
-          starts = omega (arith, few, f.starts);
-          lengths = omega (arith, few, f.lengths);
-          ids = omega (arith, short, f.paths);
-        },
-      )
-
-      -- the entries are those of the definition
-      entries-are : entries_from N first-edges ≡ entries_of l
-      unfolding projected_entries entry_of chain_of
-      entries-are = sym (ap by (sym (through_same l.sources l.sinks l.compressible marks' R.marked))
-          ∙ map-map (named_entry (id_at l.ids)) (along (through marks')) (flat_map (λ v. keep (starts_at v) es) kept)
-          ∙ ap (map (λ e. named_entry (id_at l.ids) (along (through marks') e))) (sym edges_are)
-          ∙ map-map (λ e. named_entry (id_at l.ids) (along (through marks') e)) (edge_at N) first-edges)
-        where
-          along : (ℕ → Bool) → Edge → ProjectedEdge
-          along t e = projected_by (key_at l.low) (key_at l.high) (inverts_from l.inverts) e (source_of e ∷ chain (length es) es t (sink_of e))
-
-          by : (ℕ → Bool) → List ProjectedEdge
-          by t = map (named_entry (id_at l.ids)) (map (along t) (flat_map (λ v. keep (starts_at v) es) (keep (λ v. not (t v)) l.order)))
-
-      all-marks : marks' ++ drop n marks ≡ written marks (node_marks es l.compressible n)
-      all-marks =
-          let q : marks' ≡ node_marks es l.compressible n = R.marked ∙ ap (node_marks es l.compressible) f.kinds in
-          ap (λ k. marks' ++ drop k marks) (sym size) ∙ ap (λ m. m ++ drop (length m) marks) q ∙ sym (written-parts marks (node_marks es l.compressible n))
-
-      pub call-done : (c' : ProjectedLists) (used : ℕ) (w' : WorkLists)
-          → Filled (net l.sources l.sinks marks' l.ids l.low l.high l.inverts) (take edges firsts) c c' used
-          → ProjectionCall l marks (marks' ++ drop (length l.ids) marks) c c' w w' (Some (record { retained = nodes; projected = edges; path_ids = used }))
-      call-done c' used w' F =
-          let G : Filled N first-edges c c' used = rw listed at F in
-          record {
-            answer = sym fits;
-            done = record {
-              marked = all-marks;
-              listed = rw entries-are at G.written;
-              retained = R.retained ∙ rw f.kinds refl;
-              projected = number_is ∙ sym (length-map first-edges (λ e. entry_of N (edge_at N e))) ∙ ap length entries-are;
-              path_ids = G.place ∙ ap (λ ps. length (path_ids ps)) entries-are;
-            };
-            refused = λ e. let z : ◌≡◌ {A = ℕ} 0 1 = cc in absurd (omega arith);
-          }
+          marked = all-marks;
+          listed = rw entries-are at G.written;
+          retained = R.retained ∙ rw f.kinds refl;
+          projected = number_is ∙ sym (length-map first-edges (λ e. entry_of N (edge_at N e))) ∙ ap length entries-are;
+          path_ids = G.place ∙ ap (λ ps. length (path_ids ps)) entries-are;
+        }

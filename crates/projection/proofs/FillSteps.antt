@@ -1,4 +1,5 @@
 -- The projected edges and their paths are written, one by one. Assumes nothing.
+use mathlib.Core.Bool.{Bool, true, false, cond}
 use mathlib.Core.List.{List, [], ◌∷◌, ◌++◌, map, map-append, flat_map}
 use mathlib.Core.Path.{◌≡◌, refl, sym, ap, ◌∙◌}
 use Prim.Native.Nat.{ℕ, ◌+◌, ◌-◌, ◌<◌, ◌≤◌}
@@ -6,15 +7,16 @@ use native.Mathlib.Nat.{zero-add}
 use native.Mathlib.Numerals.{add-one}
 use native.Mathlib.Omega.{arith}
 use lib.ListN.{length, get_or, set, take, drop, length-append, length-map, take-append-drop}
-use lib.Seq.{take-suc, length-take-le, take-length}
+use lib.Seq.{take-suc, length-take-le}
+use mir.Val.{bool_byte}
 use Rattle.rules.specs.Lists.{written}
 use Rattle.rules.specs.Positions.{id_at}
 use Rattle.rules.specs.Projection.{ProjectedEdge, projected_by, starts_from, path_starts, path_length, path_ids}
-use Rattle.rules.specs.declared.delay.DelayRange.{DelayRange}
 use Rattle.rules.proofs.Indices.{at_mem}
 use Rattle.rules.proofs.Lists.{flat_append, flat-more}
 use Rattle.rules.proofs.Written.{written_none, written-more, from-twice, from-length}
 use Rattle.laws.proofs.PathParts.{starts-length}
+use Rattle.projection.specs.declared.walk.Walked.{Walked}
 use Rattle.projection.specs.Projecting.{ProjectedLists, projected_lists}
 use Rattle.projection.specs.Walking.{Net, edge_at, entry_of, entries_from, FirstEdge, Walking, Fillable, Filled}
 
@@ -45,6 +47,10 @@ module _ (old row new : List ℕ) (k : ℕ) (size : length row ≡ k) (w : new �
   column-more : (x : ℕ) → k < length old → set new k x ≡ written old (row ++ (x ∷ []))
   column-more x h = rw (w, ← size) (sym (written-more old row x (omega arith)))
 
+byte : (b : Bool) → ◌≡◌ {A = ℕ} (bool_byte b) (cond b 1 0)
+byte true = refl
+byte false = refl
+
 -- the columns keep their lengths
 pub record Sizes (old new : ProjectedLists) : Type 0 where
   pub sources : length new.sources ≡ length old.sources
@@ -56,7 +62,7 @@ pub record Sizes (old new : ProjectedLists) : Type 0 where
   pub lengths : length new.lengths ≡ length old.lengths
   pub ids : length new.ids ≡ length old.ids
 
-module _ (N : Net) (fs : List ℕ) (old : ProjectedLists) (R : Fillable N fs old) where
+module _ {N : Net} {fs : List ℕ} {old : ProjectedLists} (R : Fillable N fs old) where
   abbrev entry : ℕ → ProjectedEdge
   entry e = entry_of N (edge_at N e)
 
@@ -76,11 +82,8 @@ module _ (N : Net) (fs : List ℕ) (old : ProjectedLists) (R : Fillable N fs old
     place = refl;
   }
 
-  pub filled-all : (k : ℕ) (new : ProjectedLists) (end : ℕ) → k ≤ length fs → length fs ≤ k → Filled N (take k fs) old new end → Filled N fs old new end
-  filled-all k new end h i F = let e : k ≡ length fs = omega arith in rw (e, take-length fs) at F
-
   -- the first k edges
-  module _ (k : ℕ) (h : k ≤ length fs) (new : ProjectedLists) (end : ℕ) (F : Filled N (take k fs) old new end) where
+  module _ {k : ℕ} (h : k ≤ length fs) {new : ProjectedLists} {end : ℕ} (F : Filled N (take k fs) old new end) where
     abbrev ps : List ProjectedEdge
     ps = entries_from N (take k fs)
 
@@ -141,16 +144,16 @@ module _ (N : Net) (fs : List ℕ) (old : ProjectedLists) (R : Fillable N fs old
       column : (field : ProjectedEdge → ℕ) (was now : List ℕ) (x : ℕ) → now ≡ written was (map field ps) → length fs ≤ length was → x ≡ field (entry first) → set now k x ≡ written was (map field (entries_from N (take (k + 1) fs)))
       column field was now x w room e = rw (field-more field, ← e) (column-more was (map field ps) now k (field-count field) w x (omega arith))
 
-      pub filled_more : (ids' : List ℕ) (sink end' : ℕ) (delay : DelayRange) (inverted : ℕ) → Walking N (get_or fs k 0) end new.ids ids' sink end' delay inverted
+      pub filled_more : {ids' : List ℕ} {walked : Walked} → Walking N (get_or fs k 0) end new.ids ids' walked
           → Filled N (take (k + 1) fs) old
-          (projected_lists (set new.sources k (id_at N.ids (get_or N.sources (get_or fs k 0) 0))) (set new.sinks k (id_at N.ids sink)) (set new.inverted k inverted)
-          (set new.minimums k delay.minimum_redstone_ticks) (set new.maximums k delay.maximum_redstone_ticks) (set new.starts k end) (set new.lengths k (end' - end)) ids') end'
+          (projected_lists (set new.sources k (id_at N.ids (get_or N.sources (get_or fs k 0) 0))) (set new.sinks k (id_at N.ids walked.sink)) (set new.inverted k (bool_byte walked.inverted))
+          (set new.minimums k walked.delay.minimum_redstone_ticks) (set new.maximums k walked.delay.maximum_redstone_ticks) (set new.starts k end) (set new.lengths k (walked.end - end)) ids') walked.end
       unfolding entry_of projected_by
-      filled_more ids' sink end' delay inverted w = record {
+      filled_more {ids'} {walked} w = record {
         written = record {
           sources = column (λ p. p.source) old.sources new.sources _ F.written.sources R.sources refl;
           sinks = column (λ p. p.sink) old.sinks new.sinks _ F.written.sinks R.sinks w.last;
-          inverted = column (λ p. p.inverted) old.inverted new.inverted _ F.written.inverted R.inverted w.flipped;
+          inverted = column (λ p. p.inverted) old.inverted new.inverted _ F.written.inverted R.inverted (byte walked.inverted ∙ w.flipped);
           minimums = column (λ p. p.minimum) old.minimums new.minimums _ F.written.minimums R.minimums w.least;
           maximums = column (λ p. p.maximum) old.maximums new.maximums _ F.written.maximums R.maximums w.greatest;
           starts = rw start-more (column-more old.starts (path_starts ps) new.starts k start-count F.written.starts end (omega (arith, R.starts)));

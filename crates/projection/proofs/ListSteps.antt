@@ -1,40 +1,44 @@
 -- The edges linked from a node, and those out of the retained nodes, listed one by one. Assumes nothing.
-use mathlib.Core.Bool.{Bool, false, not}
+use mathlib.Core.Bool.{Bool, true, false, not}
 use mathlib.Core.List.{List, [], ◌∷◌, ◌++◌, flat_map, append_assoc, append-nil}
 use mathlib.Core.Path.{◌≡◌, refl, sym, ap, ◌∙◌}
-use Prim.Native.Nat.{ℕ, suc, ◌+◌, ◌<◌, ◌≤◌}
-use native.Mathlib.Decide.{dec_le}
+use Prim.Native.Nat.{ℕ, ◌+◌, ◌<◌, ◌≤◌}
 use native.Mathlib.Numerals.{add-one}
 use native.Mathlib.Omega.{arith}
-use borrow.Author.Tests.{eq-eqb, ne_eqb, le-leb, lt-leb}
-use lib.Dec.{eqb, leb}
+use borrow.Author.Tests.{eq-eqb, ne_eqb}
+use lib.Dec.{eqb}
 use lib.ListN.{length, get_or, set, take, drop, length-append, take-append-drop}
-use lib.Seq.{take-suc, take-length}
+use lib.Seq.{take-suc}
+use Rattle.std.specs.Prelude.{Option, Some, None, is_some}
+use Rattle.std.proofs.lemmas.List.{get_or_default}
 use Rattle.rules.specs.Lists.{keep}
 use Rattle.rules.proofs.Lists.{flat_append, flat-more, keep_append}
 use Rattle.rules.proofs.Written.{from-none, from-twice, from-length}
 use Rattle.graph.specs.Adjacency.{Rises, chain}
-use Rattle.graph.proofs.Chains.{chain-step, chain-end}
+use Rattle.graph.specs.declared.chain.Chain.{Chain}
+use Rattle.graph.specs.Chained.{chain_steps}
+use Rattle.graph.proofs.Chains.{chain-step, chain-end, step-on, step-end}
 use Rattle.projection.specs.Marking.{linked, through, firsts_by, Listable, RowWritten}
-use Rattle.projection.proofs.Rows.{from_at, at-any}
+use Rattle.projection.proofs.Rows.{from_at}
 
--- Whether a chain of links has one edge
+-- Whether a chain of links has one edge: it goes on once, and then it ends
 
-module _ (next : List ℕ) (up : Rises next) (e : ℕ) where
-  pub one-linked : e < length next → leb (length next) (get_or next e 0) ≡ eqb (length (chain next e)) 1
-  one-linked h = go (dec_le (length next) (get_or next e 0))
+module _ (next : List ℕ) (up : Rises next) (s t : Chain) (same : s.next.now ≡ next) where
+  pub linked-once : (u : Chain) (a b : Option ℕ) → is_some a ≡ true → chain_steps s a t → chain_steps t b u → (r : Bool) → is_some b ≡ not r → r ≡ eqb (length (chain next s.at)) 1
+  linked-once u None b e f g r q = absurd (cc)
+  linked-once u (Some e) b h f g r q = let k = step-on next s same e t f in go b g k.0 k.1 k.2 k.3 r q
     where
-      more : length (chain next e) ≡ suc (length (chain next (get_or next e 0)))
-      more = ap length (chain-step next up e h)
+      go : (b : Option ℕ) → chain_steps t b u → e < length next → s.at ≡ e → t.next.now ≡ next → t.at ≡ get_or next e 0 → (r : Bool) → is_some b ≡ not r → r ≡ eqb (length (chain next s.at)) 1
+      go None g h i j k true q = sym (eq-eqb (length (chain next s.at)) 1 (rw i (omega (arith, ap length (chain-step next up e h), ap length (chain-end next (get_or next e 0) (omega (arith, step-end next t j u g, k)))))))
+      go None g h i j k false q = absurd (cc)
+      go (Some d) g h i j k true q = absurd (cc)
+      go (Some d) g h i j k false q = sym (ne_eqb (length (chain next s.at)) 1 (λ q.
+          let l = step-on next t j d u g in
+          omega (arith, q, ap (λ x. length (chain next x)) i, ap length (chain-step next up e h), ap length (chain-step next up (get_or next e 0) (omega (arith, l.0, l.1, k))))))
 
-      go : Dec (length next ≤ get_or next e 0) → leb (length next) (get_or next e 0) ≡ eqb (length (chain next e)) 1
-      go (yes k) = le-leb (length next) (get_or next e 0) k ∙ sym (eq-eqb (length (chain next e)) 1 (omega (arith, more, ap length (chain-end next (get_or next e 0) k))))
-      go (no k) =
-          lt-leb (length next) (get_or next e 0) (omega (arith, k))
-          ∙ sym (ne_eqb (length (chain next e)) 1 (λ q. omega (arith, q, more, ap length (chain-step next up (get_or next e 0) (omega (arith, k))))))
-
-  pub none-linked : length next ≤ e → false ≡ eqb (length (chain next e)) 1
-  none-linked h = sym (ne_eqb (length (chain next e)) 1 (λ q. omega (arith, q, ap length (chain-end next e h))))
+  pub linked-never : (a : Option ℕ) → is_some a ≡ false → chain_steps s a t → is_some a ≡ eqb (length (chain next s.at)) 1
+  linked-never None e f = sym (ne_eqb (length (chain next s.at)) 1 (λ q. omega (arith, q, ap length (chain-end next s.at (step-end next s same t f)))))
+  linked-never (Some d) e f = absurd (cc)
 
 -- One chain is listed
 
@@ -98,9 +102,6 @@ module _ (head next marks order old : List ℕ) (L : Listable head next marks or
     pub firsts-length : length new ≡ length old
     firsts-length = ap length w.list ∙ from-length old (all (take i order)) 0 (omega (arith, front_fits i))
 
-    pub firsts-all : i ≤ length order → length order ≤ i → RowWritten (firsts_by (linked head next) marks order) 0 old new count
-    firsts-all h j = let e : i ≡ length order = omega arith in rw (e, take-length order) at w
-
     module _ (h : i < length order) where
       abbrev v : ℕ
       v = get_or order i 0
@@ -110,7 +111,7 @@ module _ (head next marks order old : List ℕ) (L : Listable head next marks or
       one_more = rw (add-one i, take-suc order i 0 h) (ap (flat_map (linked head next)) (keep_append kept (take i order) (v ∷ [])))
 
       mark-read : get_or marks v 1 ≡ get_or marks v 0
-      mark-read = at-any marks v 1 0 (L.nodes i h)
+      mark-read = get_or_default marks v 1 0 (L.nodes i h)
 
       pub firsts_same : get_or marks v 0 ≡ 0 → RowWritten (firsts_by (linked head next) marks (take (i + 1) order)) 0 old new count
       unfolding firsts_by keep

@@ -5,11 +5,12 @@ use mathlib.Core.Path.{◌≡◌, refl, sym, ap, ◌∙◌}
 use Prim.Native.Nat.{ℕ, ◌+◌, ◌<◌, ◌≤◌}
 use native.Mathlib.Omega.{arith}
 use lib.ListN.{length, set}
+use mir.Val.{bool_byte}
 use Rattle.rules.specs.Lists.{count, from, indices}
 use Rattle.rules.proofs.Counts.{count-append, count_under, count-every}
 use Rattle.rules.proofs.Indices.{indices-length, indices-more, made-length, made_at}
-use Rattle.rules.proofs.Filling.{Filling, filling-none, filling-more, filling-done}
-use Rattle.projection.specs.Marking.{compressed_by, Marked}
+use Rattle.rules.proofs.Filling.{Filling, filling-none, filling-more}
+use Rattle.projection.specs.Marking.{compressed_by}
 
 module _ (compressible incoming head next : List ℕ) where
   abbrev size : ℕ
@@ -42,24 +43,18 @@ module _ (compressible incoming head next : List ℕ) where
       pub marked-few : retained ≤ v
       marked-few = omega (arith, m.kept, count_under (λ v. not (test v)) (λ v. true) (indices v) (λ x k t. tt), count-every (indices v), indices-length v)
 
-      pub marked_all : length compressible ≤ v → Marked compressible incoming head next marks retained
-      marked_all h = record {
-        each = filling-done goal marks v m.front (omega (arith, marked-length));
-        kept = let e : v ≡ size = omega (arith, m.inside) in m.kept ∙ ap (λ k. count (λ v. not (test v)) (indices k)) e;
-      }
-
-      pub marked_more : v < length compressible → (b : Bool) → compressed_by compressible incoming head next v ≡ b → MarkedBelow (set marks v (cond b 0 1)) (cond b retained (retained + 1)) (v + 1)
+      pub marked_more : v < length marks → (kept : Bool) → kept ≡ not (compressed_by compressible incoming head next v) → MarkedBelow (set marks v (bool_byte kept)) (retained + bool_byte kept) (v + 1)
       unfolding count
-      marked_more h b e = record {
-        inside = omega arith;
-        front = filling-more goal marks v (cond b 0 1) m.front (omega (arith, goal-length)) (made_at (λ v. cond (test v) 0 1) size v 0 h ∙ ap (λ b. cond b 0 1) e);
-        kept = more b e;
+      marked_more h kept e = record {
+        inside = omega (arith, marked-length);
+        front = filling-more goal marks v (bool_byte kept) m.front (omega (arith, marked-length, goal-length)) (made_at (λ v. cond (test v) 0 1) size v 0 (omega (arith, marked-length)) ∙ rw e (marked (test v)));
+        kept = omega (arith, m.kept, ap (count (λ v. not (test v))) (indices-more v), count-append (λ v. not (test v)) (indices v) (v ∷ []), counted (test v), ap bool_byte e);
       }
         where
-          last : (b : Bool) → test v ≡ b → count (λ v. not (test v)) (v ∷ []) ≡ cond b 0 1
-          last true e = rw e refl
-          last false e = rw e refl
+          marked : (b : Bool) → ◌≡◌ {A = ℕ} (cond b 0 1) (bool_byte (not b))
+          marked true = refl
+          marked false = refl
 
-          more : (b : Bool) → test v ≡ b → cond b retained (retained + 1) ≡ count (λ v. not (test v)) (indices (v + 1))
-          more true e = omega (arith, m.kept, ap (count (λ v. not (test v))) (indices-more v), count-append (λ v. not (test v)) (indices v) (v ∷ []), last true e)
-          more false e = omega (arith, m.kept, ap (count (λ v. not (test v))) (indices-more v), count-append (λ v. not (test v)) (indices v) (v ∷ []), last false e)
+          counted : (b : Bool) → ◌≡◌ {A = ℕ} (cond (not b) 1 0) (bool_byte (not b))
+          counted true = refl
+          counted false = refl

@@ -7,8 +7,9 @@ use native.Mathlib.Decide.{dec_lt}
 use native.Mathlib.Omega.{arith}
 use borrow.Author.Tests.{eq-eqb}
 use lib.Dec.{T, eqb, eqb→eq}
-use lib.ListN.{length, get_or, take, length-map, get_or-eq_default}
-use lib.Seq.{length-take-le}
+use lib.ListN.{length, get_or, take, drop, length-map, get_or-eq_default}
+use lib.Seq.{length-take-le, take_at}
+use Rattle.std.specs.Cmp.Derive.{both_true}
 use Rattle.rules.specs.Lists.{keep, indices}
 use Rattle.rules.specs.Ordered.{key_at}
 use Rattle.rules.specs.Graph.{Edge, ◌⟶◌, in_count, out_count, edges_between}
@@ -16,14 +17,13 @@ use Rattle.rules.proofs.Lists.{and_left, and_right, keep_out, map_same}
 use Rattle.rules.proofs.Counts.{count_same}
 use Rattle.rules.proofs.Indices.{indices-below, made-length, made_at, mem-at}
 use Rattle.laws.proofs.PositionEdges.{edges_between-length, edges_between-inside}
-use Rattle.graph.specs.Adjacency.{Below, Indexed, leaving}
+use Rattle.graph.specs.Adjacency.{Indexed, leaving}
 use Rattle.graph.specs.EndCounts.{EndsCounted}
 use Rattle.graph.specs.Fits.{EdgesIndexed, index_fits}
 use Rattle.graph.proofs.Fitting.{ends-all}
 use Rattle.projection.specs.Entries.{compressed_node, node_marks, retained_count}
-use Rattle.projection.specs.Marking.{linked, compressed_by, Markable, Marked, through, firsts_by, Listable, RowWritten, Retainable, Retaining}
+use Rattle.projection.specs.Marking.{linked, compressed_by, Marked, through, firsts_by, Listable, RowWritten, Retainable, Retaining}
 use Rattle.projection.proofs.NodeScenes.{firsts-few}
-use Rattle.projection.proofs.FitSteps.{yes_both}
 use Rattle.projection.proofs.EdgeLists.{leaving-rows, in_count_lem, out-count}
 
 mark-test : (b : Bool) → eqb (cond b 0 1) 0 ≡ b
@@ -76,27 +76,25 @@ unfolding flat_map
 flat-same f g [] h = refl
 flat-same f g (v ∷ vs) h = ap₂ ◌++◌ (h v (Memᴰ.head refl)) (flat-same f g vs (λ w m. h w (Memᴰ.tail m)))
 
-module _ (sources sinks compressible order marks head next incoming firsts : List ℕ) (R : Retainable sources sinks compressible order marks head next incoming firsts) where
+module _ {sources sinks compressible order marks head next incoming firsts : List ℕ} (R : Retainable sources sinks compressible order marks head next incoming firsts) where
   abbrev n : ℕ
   n = length compressible
 
   abbrev joins : List Edge
   joins = edges_between sources sinks
 
-  pub sinks-counted : Below (length incoming) sinks
-  sinks-counted k h = omega (arith, R.sinks_below k h, R.counts)
-
   -- the edges are linked
-  module _ (head' next' : List ℕ) (r : Bool) (indexed : EdgesIndexed sources head (take (length sources) next) head' next' r) (heads : length head' ≡ length head) where
-    index : Indexed sources head' next'
+  module _ {head' next' : List ℕ} {r : Bool} (indexed : EdgesIndexed sources head (take (length sources) next) head' next' r) (heads : length head' ≡ length head) where
+    pub index : Indexed sources head' next'
     unfolding index_fits
-    index = indexed.indexed (indexed.answer ∙ yes_both _ _ (eq-eqb (length (take (length sources) next)) (length sources) (length-take-le _ _ R.links)) (sym (ends-all (length head) sources (λ k h. omega (arith, R.sources_below k h, R.heads)))))
+    index = indexed.indexed (indexed.answer ∙ both_true (eq-eqb (length (take (length sources) next)) (length sources) (length-take-le _ _ R.links)) (sym (ends-all (length head) sources (λ k h. omega (arith, R.sources_below k h, R.heads)))))
+
+    -- in the front of the list that is lent for them
+    pub cut : take (length sources) (next' ++ drop (length sources) next) ≡ next'
+    cut = take_at next' (drop (length sources) next) (length sources) index.links
 
     -- and counted
     module _ (incoming' : List ℕ) (counted : EndsCounted sinks incoming') (counts : length incoming' ≡ length incoming) where
-      pub markable : Markable compressible incoming' head' next' marks
-      markable = record { rises = index.rises; heads = omega (arith, R.heads, heads); counts = omega (arith, R.counts, counts); nodes = R.nodes }
-
       same-node : (v : ℕ) → v < n → compressed_by compressible incoming' head' next' v ≡ compressed_node joins compressible v
       same-node v h = rw (
         counted v (omega (arith, R.counts, counts)) ∙ sym (in_count_lem sources sinks R.pairs v),
@@ -104,7 +102,7 @@ module _ (sources sinks compressible order marks head next incoming firsts : Lis
       )
 
       -- the nodes are marked
-      module _ (marks' : List ℕ) (nodes : ℕ) (M : Marked compressible incoming' head' next' marks' nodes) where
+      module _ {marks' : List ℕ} {nodes : ℕ} (M : Marked compressible incoming' head' next' marks' nodes) where
         marks-are : marks' ≡ node_marks joins compressible n
         unfolding node_marks
         marks-are = M.each ∙ map_same _ _ (indices n) (λ v m. ap (λ b. cond b 0 1) (same-node v (indices-below n m)))
@@ -131,13 +129,12 @@ module _ (sources sinks compressible order marks head next incoming firsts : Lis
 
         pub listable : Listable head' next' marks' order firsts
         listable = record {
-          rises = index.rises;
           heads = omega (arith, marks-length sources sinks compressible marks' marks-are, R.heads, heads);
           nodes = λ k h. omega (arith, marks-length sources sinks compressible marks' marks-are, R.order_below k h);
           room = omega (arith, ap length firsts-are, few, R.room);
         }
 
         -- the first edges are listed
-        pub retaining : (firsts' : List ℕ) (edges : ℕ) → RowWritten (firsts_by (linked head' next') marks' order) 0 firsts firsts' edges
+        pub retaining : {firsts' : List ℕ} {edges : ℕ} → RowWritten (firsts_by (linked head' next') marks' order) 0 firsts firsts' edges
             → Retaining sources sinks compressible order firsts marks' head' firsts' nodes edges
-        retaining firsts' edges w = record { links = next'; linked = index; heads = omega (arith, R.heads, heads); marked = marks-are; retained = retained-are; listed = rw firsts-are at w }
+        retaining w = record { links = next'; linked = index; heads = omega (arith, R.heads, heads); marked = marks-are; retained = retained-are; listed = rw firsts-are at w }

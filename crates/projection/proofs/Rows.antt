@@ -5,7 +5,7 @@ use mathlib.Core.Path.{◌≡◌, refl}
 use Prim.Native.Nat.{ℕ, zero, suc, ◌+◌, ◌<◌}
 use native.Mathlib.Omega.{arith}
 use lib.Dec.{T}
-use lib.ListN.{length, get_or, set}
+use lib.ListN.{length, set}
 use Rattle.rules.specs.Lists.{written_from}
 use Rattle.rules.specs.Delay.{saturating_add}
 use Rattle.rules.specs.Graph.{Edge}
@@ -55,9 +55,3 @@ module _ {A : Type 0} where
   -- one entry more, at a place that is known to be the next
   pub from_at : (old new : List A) (start k : ℕ) (x : A) → k ≡ start + length new → k < length old → set (written_from start old new) k x ≡ written_from start old (new ++ (x ∷ []))
   from_at old new start k x e h = rw e (from_more old new start x (omega arith))
-
-  -- an entry that is there does not depend on what would be read past the end
-  pub at-any : (l : List A) (i : ℕ) (d e : A) → i < length l → get_or l i d ≡ get_or l i e
-  at-any [] i d e h = absurd (omega arith)
-  at-any (x ∷ l) zero d e h = refl
-  at-any (x ∷ l) (suc i) d e h = at-any l i d e (omega arith)

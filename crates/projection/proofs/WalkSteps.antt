@@ -1,14 +1,13 @@
 -- One chain is walked, node by node. Assumes nothing.
-use mathlib.Core.Bool.{Bool, true, false, not, cond}
+use mathlib.Core.Bool.{Bool, true, false, not, beq, cond}
 use mathlib.Core.List.Memᴰ
 use mathlib.Core.List.{List, [], ◌∷◌, ◌++◌, map, map-append, append_assoc, Memᴰ}
 use mathlib.Core.Path.{◌≡◌, refl, sym, ap, subst, ◌∙◌}
 use Prim.Native.Nat.{ℕ, zero, suc, ◌+◌, ◌<◌, ◌≤◌}
 use native.Mathlib.Omega.{arith}
-use borrow.Author.Tests.{eq-eqb, ne_eqb}
 use lib.Dec.{T, eqb, eqb→eq}
 use lib.ListN.{length, get_or, set, length-append, length-map, length-set}
-use mir.Val.{bool_byte}
+use Rattle.std.proofs.lemmas.List.{get_or_default}
 use Rattle.rules.specs.Lists.{written_from}
 use Rattle.rules.specs.Ordered.{key_at}
 use Rattle.rules.specs.Positions.{id_at, Inside}
@@ -25,7 +24,7 @@ use Rattle.laws.proofs.PositionEdges.{edges_between-length, edges_between-at, ed
 use Rattle.projection.specs.Entries.{inverts_from}
 use Rattle.projection.specs.Marking.{through}
 use Rattle.projection.specs.Walking.{Net, net_edges, edge_at, chain_of, entry_of, Walkable, FirstEdge, Walking}
-use Rattle.projection.proofs.Rows.{sum_more, flips-more, chain-goes, chain-stops, chain-spent, from_at, at-any}
+use Rattle.projection.proofs.Rows.{sum_more, flips-more, chain-goes, chain-stops, chain-spent, from_at}
 use Rattle.projection.proofs.NodeScenes.{through-ends}
 
 -- at the node v, about to leave it along the edge e, with the nodes before it written
@@ -44,19 +43,15 @@ pub record Going (N : Net) (f start : ℕ) (old new : List ℕ) (v e end : ℕ) 
 
 -- the flag after a node
 abbrev pub flipped_by : Bool → ℕ → Bool
-flipped_by inverted inverts = cond (not (eqb inverts 0)) (not inverted) inverted
+flipped_by inverted inverts = not (beq inverted (not (eqb inverts 0)))
 
-pub flipped-kept : (inverted : Bool) (inverts : ℕ) → inverts ≡ 0 → inverted ≡ flipped_by inverted inverts
-flipped-kept inverted inverts e = rw (eq-eqb inverts 0 e) refl
+turned : (b f : Bool) → not (beq b f) ≡ cond f (not b) b
+turned true true = refl
+turned true false = refl
+turned false true = refl
+turned false false = refl
 
-pub flipped-turned : (inverted : Bool) (inverts : ℕ) → (inverts ≡ 0 → ⊥) → not inverted ≡ flipped_by inverted inverts
-flipped-turned inverted inverts n = rw (ne_eqb inverts 0 n) refl
-
-byte : (b : Bool) → ◌≡◌ {A = ℕ} (bool_byte b) (cond b 1 0)
-byte true = refl
-byte false = refl
-
-module _ (N : Net) (head : List ℕ) (W : Walkable N head) where
+module _ {N : Net} {head : List ℕ} (W : Walkable N head) where
   abbrev es : List Edge
   es = net_edges N
 
@@ -77,12 +72,12 @@ module _ (N : Net) (head : List ℕ) (W : Walkable N head) where
 
   -- a mark that is read
   pub passes : (v : ℕ) → v < length N.ids → get_or N.marks v 0 ≡ 0 → T (through N.marks v)
-  passes v h z = eq_test (at-any N.marks v 1 0 (omega (arith, W.marked)) ∙ z)
+  passes v h z = eq_test (get_or_default N.marks v 1 0 (omega (arith, W.marked)) ∙ z)
 
   pub stops : (v : ℕ) → v < length N.ids → (get_or N.marks v 0 ≡ 0 → ⊥) → T (through N.marks v) → ⊥
-  stops v h z t = z (at-any N.marks v 0 1 (omega (arith, W.marked)) ∙ eqb→eq (get_or N.marks v 1) 0 t)
+  stops v h z t = z (get_or_default N.marks v 0 1 (omega (arith, W.marked)) ∙ eqb→eq (get_or N.marks v 1) 0 t)
 
-  module _ (f : ℕ) (F : FirstEdge N f) (start : ℕ) (old : List ℕ) (room : start + path_length (entry_of N (edge_at N f)) ≤ length old) where
+  module _ {f : ℕ} (F : FirstEdge N f) (start : ℕ) (old : List ℕ) (room : start + path_length (entry_of N (edge_at N f)) ≤ length old) where
     path-length : path_length (entry_of N (edge_at N f)) ≡ length (chain_of N (edge_at N f))
     unfolding entry_of projected_by
     path-length = length-map (chain_of N (edge_at N f)) (id_at N.ids)
@@ -123,9 +118,6 @@ module _ (N : Net) (head : List ℕ) (W : Walkable N head) where
       pub end-in : end < length new
       end-in = omega (arith, kept-length, longer, path-length, g.place)
 
-      pub end-less : end < start + suc (length N.sources)
-      end-less = omega (arith, g.steps, g.place)
-
       -- the node is written
       names_more : set new end (id_at N.ids v) ≡ written_from start old (map (id_at N.ids) before)
       names_more =
@@ -145,7 +137,7 @@ module _ (N : Net) (head : List ℕ) (W : Walkable N head) where
       greatest-more = rw g.greatest (sym (sum_more (key_at N.high) g.met v))
 
       flipped-more : flipped_by inverted (key_at N.inverts v) ≡ flips (inverts_from N.inverts) before
-      flipped-more = rw (g.flipped, flips-more (inverts_from N.inverts) g.met v) refl
+      flipped-more = rw (g.flipped, flips-more (inverts_from N.inverts) g.met v) (turned (flips (inverts_from N.inverts) g.met) (inverts_from N.inverts v))
 
       -- the chain if it stops at the next node
       whole-end : chain g.left es th w ≡ w ∷ [] → chain_of N (edge_at N f) ≡ before ++ (w ∷ [])
@@ -189,7 +181,7 @@ module _ (N : Net) (head : List ℕ) (W : Walkable N head) where
         pub last-in : end + 1 < length (set new end (id_at N.ids v))
         last-in = omega (arith, length-set new end (id_at N.ids v), kept-length, last-place)
 
-        pub going_end : Walking N f start old (set (set new end (id_at N.ids v)) (end + 1) (id_at N.ids w)) w (end + 1 + 1) delay-more (bool_byte (flipped_by inverted (key_at N.inverts v)))
+        pub going_end : Walking N f start old (set (set new end (id_at N.ids v)) (end + 1) (id_at N.ids w)) (record { sink = w; end = end + 1 + 1; delay = delay-more; inverted = flipped_by inverted (key_at N.inverts v) })
         unfolding entry_of projected_by
         going_end = record {
           names = rw (ended, map-append (id_at N.ids) before (w ∷ []), names_more)
@@ -199,5 +191,5 @@ module _ (N : Net) (head : List ℕ) (W : Walkable N head) where
           last = ap (id_at N.ids) (sym (ap last_of ended ∙ last-appended before w));
           least = least_more ∙ ap (delay_sum (key_at N.low)) (sym (ap before_last ended ∙ before-appended before w));
           greatest = greatest-more ∙ ap (delay_sum (key_at N.high)) (sym (ap before_last ended ∙ before-appended before w));
-          flipped = byte (flipped_by inverted (key_at N.inverts v)) ∙ ap (λ b. cond b 1 0) (flipped-more ∙ ap (flips (inverts_from N.inverts)) (sym (ap before_last ended ∙ before-appended before w)));
+          flipped = ap (λ b. cond b 1 0) (flipped-more ∙ ap (flips (inverts_from N.inverts)) (sym (ap before_last ended ∙ before-appended before w)));
         }

@@ -6,7 +6,7 @@ use Rattle.projection.specs.Projecting.{NodeLists, node_lists, ProjectedLists, p
 use Rattle.projection.specs.Walking.{Net, net}
 use Rattle.projection.specs.declared.lent.Nodes.{Nodes}
 use Rattle.projection.specs.declared.lent.ProjectionRoom.{ProjectionRoom}
-use Rattle.projection.specs.declared.lent.MarkedNodes.{MarkedNodes}
+use Rattle.projection.specs.declared.marked.MarkedGraph.{MarkedGraph}
 
 abbrev pub nodes_lent : Nodes → Edges → (order : List ℕ) → NodeLists
 nodes_lent x g order = node_lists x.ids.now g.sources.now g.sinks.now x.low.now x.high.now x.inverts.now x.compressible.now order
@@ -17,8 +17,8 @@ projection_lent x = projected_lists x.sources.now x.sinks.now x.inverted.now x.m
 abbrev pub room_lent : ProjectionRoom → WorkLists
 room_lent x = work_lists x.head.now x.next.now x.incoming.now x.firsts.now
 
-abbrev pub graph_lent : MarkedNodes → Edges → Net
-graph_lent x g = net g.sources.now g.sinks.now x.marks.now x.nodes.ids.now x.nodes.low.now x.nodes.high.now x.nodes.inverts.now
+abbrev pub graph_lent : MarkedGraph → Net
+graph_lent g = net g.edges.sources.now g.edges.sinks.now g.marks.now g.nodes.ids.now g.nodes.low.now g.nodes.high.now g.nodes.inverts.now
 
 pub record SameProjectionRoom (old new : ProjectionRoom) : Type 0 where
   pub head : new.head.ghost_name ≡ old.head.ghost_name

@@ -4,7 +4,7 @@ use mathlib.Core.List.{List, map, flat_map}
 use Rattle.rules.specs.Lists.{keep, count, indices, written_from, Distinct}
 use Rattle.rules.specs.Ordered.{key_at}
 use Rattle.rules.specs.Graph.{edges_between}
-use Rattle.graph.specs.Adjacency.{Below, chain, Rises, leaving, Indexed}
+use Rattle.graph.specs.Adjacency.{Below, chain, leaving, Indexed}
 use Rattle.projection.specs.Entries.{node_marks, retained_count}
 
 -- the edges out of v, by their links
@@ -15,8 +15,7 @@ linked head next v = chain next (get_or head v 0)
 abbrev pub compressed_by : (compressible incoming head next : List ℕ) → ℕ → Bool
 compressed_by compressible incoming head next v = not (eqb (key_at compressible v) 0) && (eqb (key_at incoming v) 1 && eqb (length (linked head next v)) 1)
 
-pub record Markable (compressible incoming head next marks : List ℕ) : Type 0 where
-  pub rises : Rises next
+pub record Markable (compressible incoming head marks : List ℕ) : Type 0 where
   pub heads : length compressible ≤ length head
   pub counts : length compressible ≤ length incoming
   pub nodes : length marks ≡ length compressible
@@ -34,7 +33,6 @@ unfoldable pub firsts_by : (ℕ → List ℕ) → (marks order : List ℕ) → L
 firsts_by out marks order = flat_map out (keep (λ v. not (through marks v)) order)
 
 pub record Listable (head next marks order firsts : List ℕ) : Type 0 where
-  pub rises : Rises next
   pub heads : length marks ≤ length head
   pub nodes : Below (length marks) order
   pub room : length (firsts_by (linked head next) marks order) ≤ length firsts

@@ -1,9 +1,12 @@
 -- What the projection reads, writes and promises. Assumes nothing: these are definitions.
-use Rattle.std.specs.Prelude.{Bool, true, false, not, ◌&&◌, Option, is_some, IfSome, List, [], ◌∷◌, map, ◌≡◌, ℕ, ◌*◌, eqb, leb, ltb, length}
-use Rattle.rules.specs.Lists.{any, written}
+use Rattle.std.specs.Prelude.{Bool, true, false, ◌&&◌, Option, is_some, IfSome, List, [], ◌∷◌, map, ◌≡◌, ℕ, ◌*◌, ◌≤◌, eqb, leb, length}
+use Rattle.std.specs.List.{list_all}
+use Rattle.rules.specs.Lists.{written}
 use Rattle.rules.specs.Positions.{id_at}
 use Rattle.rules.specs.Graph.{Edge, edges_between}
 use Rattle.rules.specs.Projection.{ProjectedEdge, path_starts, path_length, path_ids}
+unfoldable pub use Rattle.order.specs.Rising.{rises}
+use Rattle.graph.specs.Adjacency.{Below}
 use Rattle.graph.specs.Fits.{ends_below}
 use Rattle.projection.specs.Entries.{node_marks, retained_count, projected_entries}
 use Rattle.projection.specs.declared.Projected.{Projected}
@@ -67,17 +70,11 @@ work_lists a b c d = record { head = a; next = b; incoming = c; firsts = d }
 -- The tests
 
 -- each of these lengths is n, or n at least
-unfoldable pub each_is : ℕ → List ℕ → Bool
-each_is n lengths = not (any (λ k. not (eqb k n)) lengths)
+abbrev pub each_is : ℕ → List ℕ → Bool
+each_is n lengths = list_all (λ k. eqb k n) lengths
 
-unfoldable pub each_at_least : ℕ → List ℕ → Bool
-each_at_least n lengths = not (any (λ k. ltb k n) lengths)
-
--- each number is greater than the one before it
-unfoldable pub rises : List ℕ → Bool
-rises [] = true
-rises (x ∷ []) = true
-rises (x ∷ y ∷ l) = let r = rises (y ∷ l) in ltb x y && r
+abbrev pub each_at_least : ℕ → List ℕ → Bool
+each_at_least n lengths = list_all (leb n) lengths
 
 -- a sink for each source, each of them a node; positions that are nodes, with names that rise, so that none stands there twice; and by
 -- their lengths, the lists that have an entry for each node and no more, for each node at least, for each edge at least, and list 7, with
@@ -110,6 +107,31 @@ lengths_fit l marks c w =
     && each_at_least (length l.sources)
     (length w.next ∷ length w.firsts ∷ length c.sources ∷ length c.sinks ∷ length c.inverted ∷ length c.minimums ∷ length c.maximums ∷ length c.starts ∷ length c.lengths ∷ [])
     && leb (2 * length l.sources) (length c.ids)
+
+-- what the tests say when all pass
+pub record Fitted (l : NodeLists) (marks : List ℕ) (c : ProjectedLists) (w : WorkLists) : Type 0 where
+  pub pairs : length l.sinks ≡ length l.sources
+  pub lows : length l.low ≡ length l.ids
+  pub highs : length l.high ≡ length l.ids
+  pub flags : length l.inverts ≡ length l.ids
+  pub kinds : length l.compressible ≡ length l.ids
+  pub marked : length l.ids ≤ length marks
+  pub heads : length l.ids ≤ length w.head
+  pub counts : length l.ids ≤ length w.incoming
+  pub links : length l.sources ≤ length w.next
+  pub firsts : length l.sources ≤ length w.firsts
+  pub sources : length l.sources ≤ length c.sources
+  pub sinks : length l.sources ≤ length c.sinks
+  pub inverted : length l.sources ≤ length c.inverted
+  pub minimums : length l.sources ≤ length c.minimums
+  pub maximums : length l.sources ≤ length c.maximums
+  pub starts : length l.sources ≤ length c.starts
+  pub lengths : length l.sources ≤ length c.lengths
+  pub paths : 2 * length l.sources ≤ length c.ids
+  pub sources_below : Below (length l.ids) l.sources
+  pub sinks_below : Below (length l.ids) l.sinks
+  pub order_below : Below (length l.ids) l.order
+  pub rising : rises (map (id_at l.ids) l.order) ≡ true
 
 -- The call
 

@@ -1,13 +1,13 @@
 -- Chains walked from first edges, and the columns that are filled. Assumes nothing: these are definitions.
 use mathlib.Core.List.{List, ◌∷◌, map, Memᴰ}
-use Rattle.std.specs.Prelude.{◌≡◌, ℕ, ◌+◌, ◌<◌, ◌≤◌, T, length, get_or}
+use Rattle.std.specs.Prelude.{cond, ◌≡◌, ℕ, ◌+◌, ◌<◌, ◌≤◌, T, length, get_or}
 use Rattle.rules.specs.Lists.{written_from}
 use Rattle.rules.specs.Ordered.{key_at}
 use Rattle.rules.specs.Positions.{named_entry, id_at}
 use Rattle.rules.specs.Graph.{Edge, ◌⟶◌, source_of, sink_of, in_count, out_count, edges_between}
 use Rattle.rules.specs.Projection.{ProjectedEdge, next, chain, projected_by, path_ids, path_length}
-use Rattle.rules.specs.declared.delay.DelayRange.{DelayRange}
 use Rattle.graph.specs.Adjacency.{Below}
+use Rattle.projection.specs.declared.walk.Walked.{Walked}
 use Rattle.projection.specs.Entries.{inverts_from}
 use Rattle.projection.specs.Marking.{through}
 use Rattle.projection.specs.Projecting.{ProjectedLists, EntriesWritten}
@@ -59,14 +59,14 @@ pub record FirstEdge (N : Net) (e : ℕ) : Type 0 where
   pub kept : T (through N.marks (get_or N.sources e 0)) → ⊥
 
 -- what a walk leaves: the names along the chain from a place on, and what the entry holds
-pub record Walking (N : Net) (e start : ℕ) (old new : List ℕ) (sink end : ℕ) (delay : DelayRange) (inverted : ℕ) : Type 0 where
+pub record Walking (N : Net) (e start : ℕ) (old new : List ℕ) (w : Walked) : Type 0 where
   pub names : new ≡ written_from start old (entry_of N (edge_at N e)).path
-  pub place : end ≡ start + path_length (entry_of N (edge_at N e))
-  pub inside : sink < length N.ids
-  pub last : id_at N.ids sink ≡ (entry_of N (edge_at N e)).sink
-  pub least : delay.minimum_redstone_ticks ≡ (entry_of N (edge_at N e)).minimum
-  pub greatest : delay.maximum_redstone_ticks ≡ (entry_of N (edge_at N e)).maximum
-  pub flipped : inverted ≡ (entry_of N (edge_at N e)).inverted
+  pub place : w.end ≡ start + path_length (entry_of N (edge_at N e))
+  pub inside : w.sink < length N.ids
+  pub last : id_at N.ids w.sink ≡ (entry_of N (edge_at N e)).sink
+  pub least : w.delay.minimum_redstone_ticks ≡ (entry_of N (edge_at N e)).minimum
+  pub greatest : w.delay.maximum_redstone_ticks ≡ (entry_of N (edge_at N e)).maximum
+  pub flipped : cond w.inverted 1 0 ≡ (entry_of N (edge_at N e)).inverted
 
 abbrev pub entries_from : Net → List ℕ → List ProjectedEdge
 entries_from N firsts = map (λ e. entry_of N (edge_at N e)) firsts

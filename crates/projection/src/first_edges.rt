@@ -1,9 +1,8 @@
 // The edges that chains begin with.
-ghost use Rattle.std.specs.Prelude.{◌+◌, ◌≤◌, length};
-ghost use Rattle.graph.specs.Adjacency.{Rises, chain};
+ghost use Rattle.std.specs.Prelude.{◌+◌, ◌<◌, ◌≤◌, length};
 ghost use Rattle.projection.specs.Marking.{linked, firsts_by, Listable, RowWritten};
 
-use crate::lent::Links;
+use crate::links::Links;
 
 // Lists the edges out of the retained nodes, node by node in the given order, and answers how many there are.
 pub(crate) fn list_first_edges(
@@ -18,23 +17,22 @@ pub(crate) fn list_first_edges(
     let mut count = 0;
     for &v in order {
         if marks[v] != 0 {
-            count = list_chain(links.next, firsts, count, links.head[v]);
+            count = list_leaving(links, v, firsts, count);
         }
     }
     count
 }
 
-// Lists the edges linked from first on, from the place count on, and answers the place after the last.
-fn list_chain(next: &[usize], list: &mut [usize], count: usize, first: usize) -> usize
-    requires { Rises next.now × (count + length (chain next.now first) ≤ length list.old) }
-    ensures { RowWritten (chain next.now first) count list.old list.new result }
+// Lists the edges out of v from the place count on, and answers the place after the last.
+fn list_leaving(links: &Links<'_>, v: usize, list: &mut [usize], count: usize) -> usize
+    requires { (v < length links.now.head.now) × (count + length (linked links.now.head.now links.now.next.now v) ≤ length list.old) }
+    ensures { RowWritten (linked links.now.head.now links.now.next.now v) count list.old list.new result }
 {
     let mut place = count;
-    let mut e = first;
-    while e < next.len() {
+    // counted by hand: the place after the last is the answer, and how long the chain is shows at its end
+    for e in links.leaving(v) {
         list[place] = e;
         place += 1;
-        e = next[e];
     }
     place
 }

@@ -1,16 +1,17 @@
 // The tests of the lists' shapes.
-ghost use Rattle.std.specs.Prelude.{◌≡◌, [], map, length};
-ghost use Rattle.rules.specs.Positions.{id_at};
-ghost use Rattle.graph.specs.Adjacency.{Below};
+ghost use Rattle.std.specs.Prelude.{◌≡◌, []};
 ghost use Rattle.projection.specs.Lent.{nodes_lent, projection_lent, room_lent};
-ghost use Rattle.projection.specs.Projecting.{each_is, each_at_least, lengths_fit, rises, projection_fits};
+ghost use Rattle.projection.specs.Projecting.{each_is, lengths_fit, projection_fits};
 
 use crate::lent::{Nodes, ProjectionRoom};
 use graph::adjacency::ends_below;
 use graph::edges::Edges;
+use lengths::each_at_least;
+use order::rising::rise_along;
 use rules::lent::ProjectionLists;
 
-// Whether the lists have the shapes that a projection asks for.
+// Whether the lists have the shapes that a projection asks for. The call's parameters, one by one: a struct of the six would
+// be taken apart here at once, and the passes need other parts of it.
 #[tactic(auto, unfolding(crate::specs::Projecting::shapes_fit))]
 pub(crate) fn lists_fit(
     nodes: &Nodes<'_>,
@@ -27,11 +28,12 @@ pub(crate) fn lists_fit(
         && ends_below(edges.sources, n)
         && ends_below(edges.sinks, n)
         && ends_below(order, n)
-        && ids_rise(nodes.ids, order)
+        && rise_along(nodes.ids, order)
 }
 
 // Whether there is a sink for each source, some lists have an entry for each node and no more, some for each node at
-// least, some for each edge at least, and list 7 has two for each edge at least.
+// least, some for each edge at least, and list 7 has two for each edge at least. room_of of assess reads some of these
+// lengths too, but takes the shortest, where here each is tested.
 fn lengths_fit(
     nodes: &Nodes<'_>,
     edges: &Edges<'_>,
@@ -69,29 +71,9 @@ fn lengths_fit(
         && m <= projected.path_ids.len() / 2
 }
 
-// Whether each of the lengths is n.
+// Whether each of the lengths is n. Like each_at_least but for the test, which one for both would take as a closure.
 fn each_is(n: usize, lengths: &[usize]) -> bool
     ensures { result ≡ each_is n lengths.now }
 {
     lengths.iter().all(|&k| k == n)
-}
-
-// Whether each of the lengths is n or more.
-fn each_at_least(n: usize, lengths: &[usize]) -> bool
-    ensures { result ≡ each_at_least n lengths.now }
-{
-    lengths.iter().all(|&k| n <= k)
-}
-
-// Whether the ids rise along the order, so that no position stands in it twice.
-fn ids_rise(ids: &[u64], order: &[usize]) -> bool
-    requires { Below (length ids.now) order.now }
-    ensures { result ≡ rises (map (id_at ids.now) order.now) }
-{
-    for i in 1..order.len() {
-        if ids[order[i]] <= ids[order[i - 1]] {
-            return false;
-        }
-    }
-    true
 }

@@ -1,6 +1,7 @@
 // The lists that are read, written and lent to work in.
 
-// The nodes of a graph: an id for each, its delay, whether its edges invert and whether it may be compressed (not 0).
+// The nodes of a graph: an id for each, its delay, whether its edges invert and whether it may be compressed (not 0). A list
+// for each field, as the C interface lends a scene's, and u8 where bool would ask more of callers.
 #[derive(Clone, Copy)]
 pub struct Nodes<'a> {
     pub ids: &'a [u64],
@@ -17,19 +18,4 @@ pub struct ProjectionRoom<'a> {
     pub next: &'a mut [usize],
     pub incoming: &'a mut [usize],
     pub firsts: &'a mut [usize],
-}
-
-// Edges linked by the node that they leave.
-#[derive(Clone, Copy)]
-pub(crate) struct Links<'a> {
-    pub head: &'a [usize],
-    pub next: &'a [usize],
-}
-
-// Nodes with their marks, and the first edge out of each.
-#[derive(Clone, Copy)]
-pub(crate) struct MarkedNodes<'n, 'a> {
-    pub nodes: Nodes<'n>,
-    pub marks: &'a [u8],
-    pub head: &'a [usize],
 }

@@ -3,7 +3,8 @@ ghost use Rattle.projection.specs.Lent.{SameProjectionRoom};
 ghost use Rattle.projection.specs.Marking.{Retainable, Retaining};
 
 use crate::first_edges::list_first_edges;
-use crate::lent::{Links, ProjectionRoom};
+use crate::lent::ProjectionRoom;
+use crate::links::Links;
 use crate::marks::mark_nodes;
 use graph::adjacency::index_edges;
 use graph::edges::Edges;

@@ -10,7 +10,7 @@ use Rattle.std.proofs.Math.Bool.{and_assoc}
 use Rattle.rules.specs.Lists.{every}
 use Rattle.rules.specs.Text.{starts_with, delay_word}
 use Rattle.rules.specs.Bytes.{bytes, is_digit, value_from, leading_zero, is_decimal, number_up_to, negative, not_negative, signed_number}
-use Rattle.rules.proofs.Decimals.{number-text, delay-text}
+use Rattle.rules.proofs.Decimals.{number-text}
 
 -- what digits say after those read before them, up to the largest
 unfoldable pub digits_from : ℕ → ℕ → List ℕ → Option ℕ
@@ -148,6 +148,3 @@ whole_compared (b ∷ bs) (n ∷ ns) =
 pub delay_number : (bs : List ℕ) → false ≡ pointwise eqb bs (bytes "none") → delay_word bs ≡ number_up_to 255 bs
 unfolding delay_word
 delay_number bs e = rw (sym (whole_compared bs (bytes "none")), sym e)
-
-pub delay_fits : (bs : List ℕ) (n : ℕ) → Some n ≡ delay_word bs → n ≤ 256
-delay_fits bs n e = (delay-text bs n (sym e)).1

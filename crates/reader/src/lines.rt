@@ -1,5 +1,5 @@
 // A text read line by line, a field on each line: the field's name and its value.
-ghost use Rattle.std.specs.Prelude.{◌≡◌, ◌+◌, ◌≤◌, List, ℕ, Option, OnOk, MatchResult, eqb, length, true, false, position};
+ghost use Rattle.std.specs.Prelude.{◌≡◌, ◌+◌, ◌^◌, ◌<◌, ◌≤◌, List, ℕ, Option, OnOk, MatchResult, SomeIff, eqb, length, true, false, position};
 ghost use Rattle.rules.specs.Lists.{not_empty};
 ghost use Rattle.rules.specs.Text.{line_feed, place, field};
 ghost use Rattle.reader.specs.Lines.{NamedLine};
@@ -69,6 +69,14 @@ impl<'a> Lines<'a> {
             line: 1,
             rest: text,
         }
+    }
+
+    // At a line of a text, from which on these bytes are left; none where a line's number could not be held.
+    pub fn at_line(line: u64, rest: &'a [u8]) -> Option<Self>
+        ensures { SomeIff result (line + length rest.now < 2 ^ 64) (place line rest.now) }
+    {
+        line.checked_add(rest.len() as u64)?;
+        Some(Lines { line, rest })
     }
 
     // Where nothing may follow: a line that does breaks the form.

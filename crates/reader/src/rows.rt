@@ -6,6 +6,8 @@ ghost use Rattle.reader.specs.Readings.{reading_as, component_of, connection_of}
 use crate::lines::{BrokenLine, Lines};
 use crate::numbers::{byte, delay_word, flag, number64, signed_number};
 
+// Kinds, flags, transfers and delay words stay numbers: they are lent to the scene calls as the C interface has them, and
+// tested there.
 #[derive(Clone, Copy)]
 pub struct ComponentRow {
     pub id: u64,

@@ -4,7 +4,7 @@ use mathlib.Core.Path.{◌≡◌, sym, ap, ap₂, subst, ◌∙◌}
 use Prim.Native.Nat.{ℕ, ◌+◌, ◌*◌, ◌<◌, ◌≤◌}
 use native.Mathlib.Nat.{zero-add}
 use native.Mathlib.Omega.{arith}
-use lib.ListN.{length, get_or, take, replicate, length-append, length-map, length-replicate}
+use lib.ListN.{length, get_or, replicate, length-append, length-map, length-replicate}
 use Rattle.rules.specs.Lists.{keep, indices, written}
 use Rattle.rules.specs.Ordered.{key_at}
 use Rattle.rules.specs.Graph.{Edge, edges_between}
@@ -16,7 +16,7 @@ use Rattle.rules.specs.declared.answers.TemporalScope.{TemporalScope}
 use Rattle.rules.specs.declared.answers.BehaviorPattern.{BehaviorPattern}
 use Rattle.rules.proofs.Lists.{keep_out, map_same, flat-map}
 use Rattle.rules.proofs.Indices.{at_mem, mem-at, made-length, made_at}
-use Rattle.rules.proofs.Written.{from-length, written-front, written_at, written-length}
+use Rattle.rules.proofs.Written.{from-length, written_at}
 use Rattle.laws.proofs.Room.{keep-fewer, loop-one}
 use Rattle.reasons.specs.Assessed.{Assessable, ReasonsFound}
 use Rattle.reasons.specs.Listing.{shared_ids}
@@ -44,19 +44,9 @@ module _ (l : ComponentLists) (starts stops order : List ℕ) (asked : Assessabl
   unfolding temporal_over
   temporal-rows = ap (λ o. feedback_reason (shared_ids l.ids l.kinds starts stops) ++ o) own-rows
 
-  module _ {labels labels' : LabelColumns} {unequal unequal' : List ℕ} {count : ℕ}
+  module _ {labels labels' : LabelColumns} {unequal : List ℕ}
       (room : (length l.ids ≤ length labels.settled) × (length l.ids ≤ length labels.lows) × (length l.ids ≤ length labels.highs))
-      (sums : PathsSummed (edges_between starts stops) (position_delay l.kinds l.delays) (length l.kinds) order labels unequal labels' unequal' count) where
-    -- the positions listed are at the front
-    front : take count unequal' ≡ keep (unequal_at es d d) order
-    front = ap (take count) sums.unequal_listed ∙ written-front unequal (keep (unequal_at es d d) order) count (sym sums.unequal_counted)
-
-    pub front_most : count ≤ length unequal'
-    front_most = omega (arith, sums.unequal_counted, ap length sums.unequal_listed, written-length unequal (keep (unequal_at es d d) order))
-
-    pub front_length : count ≡ length (take count unequal')
-    front_length = sums.unequal_counted ∙ sym (ap length front)
-
+      (sums : PathsSummed (edges_between starts stops) (position_delay l.kinds l.delays) (length l.kinds) order labels labels' unequal) where
     -- list 8 is as long as it was
     made_long : (f : ℕ → ℕ) (old new : List ℕ) → length l.ids ≤ length old → new ≡ written old (map f (indices (length l.kinds))) → length l.ids ≤ length new
     made_long f old new h e = omega (arith, asked.kinds_length, ap length e ∙ from-length old (map f (indices (length l.kinds))) 0 (omega (arith, made-length f (length l.kinds), asked.kinds_length)))
@@ -67,23 +57,23 @@ module _ (l : ComponentLists) (starts stops order : List ℕ) (asked : Assessabl
     listed_below : (v : ℕ) → Memᴰ v (keep (unequal_at es d d) order) → v < length l.ids
     listed_below v m = let r = mem-at 0 (keep_out (unequal_at es d d) order m).0 in omega (arith, asked.positions r.0 r.1, r.2)
 
-    pub unequal-asked : UnequalAsked l.ids labels'.lows labels'.highs (take count unequal')
+    pub unequal-asked : UnequalAsked l.ids labels'.lows labels'.highs unequal
     unequal-asked = record {
-      positions = λ k h. listed_below _ (subst (λ m. Memᴰ (get_or (take count unequal') k 0) m) front (at_mem 0 (take count unequal') k h));
+      positions = λ k h. listed_below _ (subst (λ m. Memᴰ (get_or unequal k 0) m) sums.unequal_found (at_mem 0 unequal k h));
       smallest_room = labels-long.1;
       largest_room = labels-long.2;
     }
 
     -- room for the unequal delays after the other reasons
     pub unequal_room : {reasons reasons' : Columns} (listed temporal : ℕ) → ReasonRoom (2 * length l.ids + 1) reasons
-        → ((fs : List ℕ) → listed ≡ length fs → ReasonsListed 0 (feedback_reason fs ++ own_reasons l.ids l.kinds l.locked (length l.ids)) reasons reasons' temporal) → ReasonRoom (temporal + length (take count unequal')) reasons'
+        → ((fs : List ℕ) → listed ≡ length fs → ReasonsListed 0 (feedback_reason fs ++ own_reasons l.ids l.kinds l.locked (length l.ids)) reasons reasons' temporal) → ReasonRoom (temporal + length unequal) reasons'
     unequal_room listed temporal r rows =
         let some : List ℕ = replicate listed 0 in
         let p = rows some (sym (length-replicate listed 0)) in
         let few : length (feedback_reason some ++ own_reasons l.ids l.kinds l.locked (length l.ids)) ≤ 1 + length l.ids =
         omega (arith, length-append (feedback_reason some) (own_reasons l.ids l.kinds l.locked (length l.ids)), loop-one some, own-count l.ids l.kinds l.locked (length l.ids)) in
-        let most : count ≤ length l.ids = omega (arith, sums.unequal_counted, keep-fewer (unequal_at es d d) order, asked.order_few) in
-        room-kept (2 * length l.ids + 1) (temporal + length (take count unequal')) (omega (arith, p.next, front_length)) r (rows-kept (2 * length l.ids + 1) (omega arith) r p.rows)
+        let most : length unequal ≤ length l.ids = omega (arith, ap length sums.unequal_found, keep-fewer (unequal_at es d d) order, asked.order_few) in
+        room-kept (2 * length l.ids + 1) (temporal + length unequal) (omega (arith, p.next)) r (rows-kept (2 * length l.ids + 1) (omega arith) r p.rows)
 
     sum-at : (f : ℕ → ℕ) (old new : List ℕ) → new ≡ written old (map f (indices (length l.kinds))) → (v : ℕ) → v < length l.ids → key_at new v ≡ f v
     sum-at f old new e v h =
@@ -91,14 +81,14 @@ module _ (l : ComponentLists) (starts stops order : List ℕ) (asked : Assessabl
         ap (λ l. get_or l v 0) e ∙ written_at old (map f (indices (length l.kinds))) v 0 (omega (arith, made-length f (length l.kinds))) ∙ made_at f (length l.kinds) v 0 k
 
     -- the unequal delays are listed with their sums
-    unequal-rows : map (unequal_row l.ids labels'.lows labels'.highs) (take count unequal') ≡ unequal_over l starts stops order
+    unequal-rows : map (unequal_row l.ids labels'.lows labels'.highs) unequal ≡ unequal_over l starts stops order
     unfolding unequal_over
     unequal-rows =
-        ap (map (unequal_row l.ids labels'.lows labels'.highs)) front
+        ap (map (unequal_row l.ids labels'.lows labels'.highs)) sums.unequal_found
         ∙ map_same _ (unequal_reason_over l starts stops) (keep (unequal_at es d d) order)
         (λ v m. ap₂ (unequal_reconvergent_delay (get_or l.ids v 0)) (sum-at (smallest_sum es d) labels.lows labels'.lows sums.smallest_found v (listed_below v m)) (sum-at (largest_sum es d) labels.highs labels'.highs sums.largest_found v (listed_below v m)))
 
-    all-rows : (feedback_reason (shared_ids l.ids l.kinds starts stops) ++ own_reasons l.ids l.kinds l.locked (length l.ids)) ++ map (unequal_row l.ids labels'.lows labels'.highs) (take count unequal') ≡ reasons_over l starts stops order
+    all-rows : (feedback_reason (shared_ids l.ids l.kinds starts stops) ++ own_reasons l.ids l.kinds l.locked (length l.ids)) ++ map (unequal_row l.ids labels'.lows labels'.highs) unequal ≡ reasons_over l starts stops order
     unfolding reasons_over
     all-rows = ap₂ ◌++◌ temporal-rows unequal-rows
 
@@ -107,9 +97,9 @@ module _ (l : ComponentLists) (starts stops order : List ℕ) (asked : Assessabl
         (listed_ids : feedback' ≡ written feedback (shared_ids l.ids l.kinds starts stops))
         (counted : listed ≡ length (shared_ids l.ids l.kinds starts stops))
         (firsts : (fs : List ℕ) → listed ≡ length fs → ReasonsListed 0 (feedback_reason fs ++ own_reasons l.ids l.kinds l.locked (length l.ids)) reasons reasons' temporal)
-        (lasts : ReasonsListed temporal (map (unequal_row l.ids labels'.lows labels'.highs) (take count unequal')) reasons' reasons'' all)
+        (lasts : ReasonsListed temporal (map (unequal_row l.ids labels'.lows labels'.highs) unequal) reasons' reasons'' all)
         (cleared : Cleared (length l.ids) labels' labels'')
-        (scoped : (ts us : List Reason) → temporal ≡ length ts → count ≡ length us → s ≡ scope_of ts us)
+        (scoped : (ts us : List Reason) → temporal ≡ length ts → length unequal ≡ length us → s ≡ scope_of ts us)
         (patterned : p ≡ shared_pattern l.ids l.kinds starts stops) where
       pub reasons-found : ReasonsFound l starts stops order reasons feedback labels reasons'' feedback' labels'' (record { reasons = all; feedback = listed; scope = s; pattern = p })
       unfolding labels_over
@@ -126,6 +116,6 @@ module _ (l : ComponentLists) (starts stops order : List ℕ) (asked : Assessabl
             label_highs = sums-written es d (length l.ids) labels'.settled (largest_sum es d) high_sum (high-shown es d) labels.settled labels.highs labels'.highs labels''.highs settles (rw n at sums.largest_found) cleared.highs_cleared;
             reasons_counted = r.next ∙ zero-add _ ∙ ap length all-rows;
             feedback_counted = counted;
-            scope_told = scoped (temporal_over l starts stops) (unequal_over l starts stops order) (first.next ∙ zero-add _ ∙ ap length temporal-rows) (front_length ∙ sym (length-map (take count unequal') (unequal_row l.ids labels'.lows labels'.highs)) ∙ ap length unequal-rows);
+            scope_told = scoped (temporal_over l starts stops) (unequal_over l starts stops order) (first.next ∙ zero-add _ ∙ ap length temporal-rows) (sym (length-map unequal (unequal_row l.ids labels'.lows labels'.highs)) ∙ ap length unequal-rows);
             pattern_told = patterned ∙ pattern-shared l starts stops n;
           }

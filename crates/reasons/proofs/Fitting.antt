@@ -33,15 +33,15 @@ edges-linked starts stops n h e =
     }
 
 -- what the tests for list 4 say when all pass
-pub feedback-fitted : (starts stops : List ℕ) (n kinds feedback : ℕ) → feedback_fits starts stops n kinds feedback ≡ true → Linked starts stops n × (kinds ≡ n) × (n ≤ feedback)
+pub feedback_fitted : (starts stops : List ℕ) (n kinds feedback : ℕ) → feedback_fits starts stops n kinds feedback ≡ true → Linked starts stops n × (kinds ≡ n) × (n ≤ feedback)
 unfolding feedback_fits
-feedback-fitted starts stops n kinds feedback e = (edges-linked starts stops n (grind arith) (grind arith), grind arith, grind arith)
+feedback_fitted starts stops n kinds feedback e = (edges-linked starts stops n (grind arith) (grind arith), grind arith, grind arith)
 
 -- what all tests say when all pass
-pub reasons-fitted : (l : ComponentLists) (starts stops order : List ℕ) (reasons : Columns) (feedback : List ℕ) (labels : LabelColumns) → reasons_fit l starts stops order reasons feedback labels ≡ true
+pub reasons_fitted : (l : ComponentLists) (starts stops order : List ℕ) (reasons : Columns) (feedback : List ℕ) (labels : LabelColumns) → reasons_fit l starts stops order reasons feedback labels ≡ true
     → Assessable l starts stops order × OutputRoom (length l.ids) reasons feedback labels
 unfolding reasons_fit components_fit order_fits reasons_room labels_room
-reasons-fitted l starts stops order reasons feedback labels e =
+reasons_fitted l starts stops order reasons feedback labels e =
     let a : edges_fit starts stops (length l.ids) ≡ true = grind arith in
     let b : ends_below (length l.ids) order ≡ true = grind arith in (
       record {

@@ -1,5 +1,6 @@
 -- The passes, step by step:
 pub mod Fitting
+pub mod SideBySide
 pub mod ListingSteps
 pub mod PatternSteps
 pub mod OwnReasons

@@ -10,19 +10,20 @@ use borrow.Author.Tests.{ne_eqb}
 use lib.Dec.{eqb}
 use Rattle.std.specs.Prelude.{Option, Some, is_some}
 use Rattle.std.proofs.lemmas.List.{set-get_or}
-use lib.ListN.{length, get_or, drop, set, length-map, get_or-eq_default}
+use lib.ListN.{length, get_or, drop, take, set, length-map, get_or-eq_default}
 use lib.Seq.{drop_at, get_or-drop, get_or-append-add}
-use Rattle.rules.specs.Lists.{from, indices, written}
+use Rattle.rules.specs.Lists.{from, indices, keep, written}
 use Rattle.rules.specs.Kinds.{kind_row, delay_by, component_delay}
 use Rattle.rules.specs.Ordered.{key_at}
 use Rattle.rules.specs.Graph.{Edge, edges_between, settled}
 use Rattle.rules.specs.Paths.{smallest_sum, largest_sum}
 use Rattle.rules.specs.Labels.{Label, label, settled_flag, low_sum, high_sum}
+use Rattle.rules.specs.Reasons.{unequal_at}
 use Rattle.rules.specs.Refusals.{scene_limits}
 use Rattle.rules.proofs.Lists.{map_same}
 use Rattle.rules.proofs.Sums.{order}
 use Rattle.rules.proofs.Indices.{made-length, made_at, indices-below, indices-more}
-use Rattle.rules.proofs.Written.{written-parts, written_at, written_none, written-more}
+use Rattle.rules.proofs.Written.{written-front, written-parts, written_at, written_none, written-more}
 use Rattle.laws.proofs.PositionEdges.{inside-sources, inside-sinks}
 use Rattle.graph.specs.Groups.{Between}
 use Rattle.reconvergence.specs.Fits.{reconvergence_fits, settled_marks, ReconvergentDelays}
@@ -50,11 +51,11 @@ module _ (kinds words : List ℕ) where
   unfolding position_delay
   delay-next i h = made_at (position_delay kinds words) (length kinds) i 0 h
 
-  pub by-delays : {es : List Edge} {delays order unequal unequal' : List ℕ} {labels labels' : LabelColumns} {r : ℕ} → delays ≡ column
-      → PathsSummed es (key_at delays) (length delays) order labels unequal labels' unequal' r → PathsSummed es (position_delay kinds words) (length kinds) order labels unequal labels' unequal' r
-  by-delays {es} {delays} {order} {unequal} {unequal'} {labels} {labels'} {r} e p =
-      subst (λ n. PathsSummed es (position_delay kinds words) n order labels unequal labels' unequal' r) (ap length e ∙ made-length (position_delay kinds words) (length kinds))
-      (subst (λ d. PathsSummed es d (length delays) order labels unequal labels' unequal' r) (ap key_at e ∙ fun_ext delays-all) p)
+  pub by-delays : {es : List Edge} {delays order unequal : List ℕ} {labels labels' : LabelColumns} → delays ≡ column
+      → PathsSummed es (key_at delays) (length delays) order labels labels' unequal → PathsSummed es (position_delay kinds words) (length kinds) order labels labels' unequal
+  by-delays {es} {delays} {order} {unequal} {labels} {labels'} e p =
+      subst (λ n. PathsSummed es (position_delay kinds words) n order labels labels' unequal) (ap length e ∙ made-length (position_delay kinds words) (length kinds))
+      (subst (λ d. PathsSummed es d (length delays) order labels labels' unequal) (ap key_at e ∙ fun_ext delays-all) p)
 
 -- The call for the path sums
 
@@ -83,17 +84,20 @@ module _ (delays starts stops order : List ℕ) (labels : LabelColumns) (unequal
     pub sums-some : is_some r ≡ true
     sums-some = rw (h, i, j, k, l) at p.answer ∙ sums-fit (length delays) starts stops order labels unequal asked
 
-    pub sums-found : {n : ℕ} → r ≡ Some n → PathsSummed (edges_between starts stops) (key_at delays) (length delays) order labels unequal labels' unequal' n
-    unfolding settled_marks
-    sums-found {n} e =
-        let q = rw e at p in
-        record {
-          settled_marked = q.settles;
-          smallest_found = q.smallests;
-          largest_found = q.largests;
-          unequal_listed = q.lists;
-          unequal_counted = q.counts;
-        }
+    module _ {n : ℕ} (e : r ≡ Some n) where
+      pub sums-found : PathsSummed (edges_between starts stops) (key_at delays) (length delays) order labels labels' (take n unequal')
+      unfolding settled_marks
+      sums-found =
+          let q = rw e at p in
+          record {
+            settled_marked = q.settles;
+            smallest_found = q.smallests;
+            largest_found = q.largests;
+            unequal_found = ap (take n) q.lists ∙ written-front unequal (keep (unequal_at (edges_between starts stops) (key_at delays) (key_at delays)) order) n (sym q.counts);
+          }
+
+      pub sums-counted : n ≡ length (take n unequal')
+      sums-counted = let q = rw e at p in q.counts ∙ sym (ap length sums-found.unequal_found)
 
 -- Sums set to 0 one by one where a component is not settled
 

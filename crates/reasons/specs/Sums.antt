@@ -26,13 +26,12 @@ pub record Summable (n : ℕ) (starts stops order : List ℕ) (labels : LabelCol
   pub smallest_room : n ≤ length labels.lows
   pub largest_room : n ≤ length labels.highs
 
--- what is found of n components by their delays; list 8 holds the sums of every component
-pub record PathsSummed (es : List Edge) (d : ℕ → ℕ) (n : ℕ) (order : List ℕ) (labels : LabelColumns) (unequal : List ℕ) (labels' : LabelColumns) (unequal' : List ℕ) (r : ℕ) : Type 0 where
+-- what is found of n components by their delays; list 8 holds the sums of every component, unequal the positions of unequal delays
+pub record PathsSummed (es : List Edge) (d : ℕ → ℕ) (n : ℕ) (order : List ℕ) (labels labels' : LabelColumns) (unequal : List ℕ) : Type 0 where
   pub settled_marked : labels'.settled ≡ written labels.settled (map (λ v. cond (settled es v) 1 0) (indices n))
   pub smallest_found : labels'.lows ≡ written labels.lows (map (smallest_sum es d) (indices n))
   pub largest_found : labels'.highs ≡ written labels.highs (map (largest_sum es d) (indices n))
-  pub unequal_listed : unequal' ≡ written unequal (keep (unequal_at es d d) order)
-  pub unequal_counted : r ≡ length (keep (unequal_at es d d) order)
+  pub unequal_found : unequal ≡ keep (unequal_at es d d) order
 
 -- a sum, or 0 where the component is not settled
 abbrev pub cleared_sum : (settles sums : List ℕ) → ℕ → ℕ

@@ -19,6 +19,7 @@ use tables::kinds::kind_row;
 // must fit: a kind for each id and no more of them than a scene may have, as many sinks as sources and no more than a
 // scene may have, each one a position, and room for every id. If they do not, the answer is None and the list keeps its
 // content.
+#[tactic(auto, using(crate::proofs::Fitting::feedback_fitted))]
 pub fn active_feedback_components(
     ids: &[u64],
     kinds: &[u8],
@@ -27,6 +28,7 @@ pub fn active_feedback_components(
 ) -> Option<usize>
     ensures { FeedbackIds ids.now kinds.now edges.now.sources.now edges.now.sinks.now feedback_ids.old feedback_ids.new result }
 {
+    // No `then`: its contract says nothing of a list that the closure has borrowed where it is not called.
     if feedback_fits(edges, ids.len(), kinds.len(), feedback_ids.len()) {
         Some(list_within(ids, kinds, edges, feedback_ids))
     } else {
@@ -42,7 +44,8 @@ fn feedback_fits(edges: &Edges<'_>, n: usize, kinds: usize, feedback: usize) -> 
     kinds == n && n <= MAX_COMPONENTS && n <= feedback && edges_fit(edges, n)
 }
 
-// Lists the ids, with marks of its own.
+// Lists the ids, with marks of its own. Linked is of edges and a number of nodes, and the call for list 4 is lent plain edges:
+// a struct with the fact would be made here for three functions.
 fn list_within(ids: &[u64], kinds: &[u8], edges: &Edges<'_>, feedback_ids: &mut [u64]) -> usize
     requires { Linked edges.now.sources.now edges.now.sinks.now (length ids.now) × (length kinds.now ≡ length ids.now) × (length ids.now ≤ length feedback_ids.old) }
     ensures ids { feedback_ids.new ≡ written feedback_ids.old (shared_ids ids.now kinds.now edges.now.sources.now edges.now.sinks.now) }
@@ -52,7 +55,8 @@ fn list_within(ids: &[u64], kinds: &[u8], edges: &Edges<'_>, feedback_ids: &mut 
     list_shared(ids, kinds, edges, &mut marks, feedback_ids)
 }
 
-// Marks the positions in the front of marks, then lists.
+// Marks the positions in the front of marks, then lists. Ids and kinds come without the other columns, since the call for
+// list 4 alone has no others; list 4 is lent for the call, and its count is what the call answers.
 #[tactic(auto, unfolding(crate::specs::Listing::shared_ids))]
 pub(crate) fn list_shared(
     ids: &[u64],
@@ -95,8 +99,8 @@ fn list_marked(ids: &[u64], kinds: &[u8], marks: &[u8], feedback_ids: &mut [u64]
     ensures counted { result ≡ length (listed_ids ids.now kinds.now marks.now (length ids.now)) }
 {
     let mut count = 0;
-    for (i, &id) in ids.iter().enumerate() {
-        if is_listed(kinds[i], marks[i]) {
+    for ((&id, &kind), &mark) in ids.iter().zip(kinds).zip(marks) {
+        if is_listed(kind, mark) {
             feedback_ids[count] = id;
             count += 1;
         }

@@ -1,16 +1,17 @@
 // Whether the lists of an assessment fit, test by test.
-ghost use Rattle.std.specs.Prelude.{◌≡◌, length, leb};
-ghost use Rattle.std.specs.List.{list_all};
+ghost use Rattle.std.specs.Prelude.{◌≡◌};
 ghost use Rattle.rules.specs.Lent.{components_lent};
 ghost use Rattle.reasons.specs.Fits.{edges_fit, components_fit, order_fits, reasons_fit};
 ghost use Rattle.reasons.specs.Lent.{reasons_lent, labels_lent};
 
 use graph::adjacency::ends_below;
 use graph::edges::Edges;
+use lengths::each_at_least;
 use rules::lent::{Components, LabelLists, ReasonLists};
 use rules::limits::{MAX_COMPONENTS, MAX_CONNECTIONS};
 
-// Whether all of them fit.
+// Whether all of them fit. They come one by one, as assess_within says; room_of of assess has their lengths too, but takes the
+// shortest, where here each is tested.
 #[tactic(auto, unfolding(crate::specs::Fits::reasons_fit, crate::specs::Fits::reasons_room, crate::specs::Fits::labels_room))]
 pub(crate) fn reasons_fit(
     components: &Components<'_>,
@@ -39,8 +40,8 @@ pub(crate) fn reasons_fit(
     components_fit(components)
         && edges_fit(edges, n)
         && order_fits(order, n)
-        && have_room(&reason_lengths, 2 * n + 1)
-        && have_room(&label_lengths, n)
+        && each_at_least(2 * n + 1, &reason_lengths)
+        && each_at_least(n, &label_lengths)
 }
 
 // Whether each component has a kind, a delay word and a flag, and there are not too many.
@@ -72,11 +73,4 @@ fn order_fits(order: &[usize], n: usize) -> bool
     ensures { result ≡ order_fits order.now n }
 {
     order.len() <= n && ends_below(order, n)
-}
-
-// Whether lists of these lengths have room for so many entries.
-fn have_room(lengths: &[usize], need: usize) -> bool
-    ensures { result ≡ list_all (leb need) lengths.now }
-{
-    lengths.iter().all(|&length| need <= length)
 }

@@ -39,6 +39,7 @@ pub struct ReasonsAssessed {
 // as sources and no more than a scene may have, each one a position; no more entries of order than ids, each a position;
 // and the room that document 01 asks for lists 3, 4 and 8. If they do not, every list keeps its content and the answer is
 // None.
+#[tactic(auto, using(crate::proofs::Fitting::reasons_fitted))]
 pub fn assess_reasons(
     components: &Components<'_>,
     edges: &Edges<'_>,
@@ -51,6 +52,7 @@ pub fn assess_reasons(
     ensures same_labels { SameLabels labels.old labels.new }
     ensures assessed { ReasonsCall (components_lent components.now) edges.now.sources.now edges.now.sinks.now order.now (reasons_lent reasons.old) feedback_ids.old (labels_lent labels.old) (reasons_lent reasons.new) feedback_ids.new (labels_lent labels.new) result }
 {
+    // No `then`: its contract says nothing of lists that the closure has borrowed where it is not called.
     if reasons_fit(components, edges, order, reasons, feedback_ids, labels) {
         Some(assess_within(components, edges, order, reasons, feedback_ids, labels))
     } else {
@@ -59,7 +61,8 @@ pub fn assess_reasons(
 }
 
 // The same for lists that fit. The label columns first hold every path sum, also those of unsettled components, from which
-// the unequal-delay reasons are listed.
+// the unequal-delay reasons are listed. The lists come one by one, as the call is lent them: a struct of them would be made
+// for this call and taken apart here.
 fn assess_within(
     components: &Components<'_>,
     edges: &Edges<'_>,
@@ -73,18 +76,18 @@ fn assess_within(
     ensures same_labels { SameLabels labels.old labels.new }
     ensures found { ReasonsFound (components_lent components.now) edges.now.sources.now edges.now.sinks.now order.now (reasons_lent reasons.old) feedback_ids.old (labels_lent labels.old) (reasons_lent reasons.new) feedback_ids.new (labels_lent labels.new) result }
 {
-    let mut unequal = [0usize; MAX_COMPONENTS];
+    let mut room = [0usize; MAX_COMPONENTS];
     let mut marks = [0u8; MAX_COMPONENTS];
     let Components { ids, kinds, .. } = *components;
-    let count = sum_paths(components, edges, order, labels, &mut unequal);
+    let unequal = sum_paths(components, edges, order, labels, &mut room);
     let feedback = list_shared(ids, kinds, edges, &mut marks, feedback_ids);
     let temporal = list_temporal_reasons(components, feedback, reasons);
-    let all = list_unequal_reasons(ids, labels, &unequal[..count], temporal, reasons);
+    let all = list_unequal_reasons(ids, labels, unequal, temporal, reasons);
     clear_unsettled(labels, ids.len());
     ReasonsAssessed {
         reasons: all,
         feedback,
-        scope: temporal_scope(temporal, count),
+        scope: temporal_scope(temporal, unequal.len()),
         pattern: classify_behavior_patterns(kinds, &marks, feedback),
     }
 }

@@ -41,10 +41,10 @@ fn any_inverter(kinds: &[u8], marks: &[u8]) -> bool
 fn is_inverter(kind: u8) -> bool
     ensures { result ≡ is_inverter (kind_row kind).node }
 {
-    matches!(kind_row(kind).node, TemporalNodeKind::Inverter)
+    kind_row(kind).node == TemporalNodeKind::Inverter
 }
 
-// Whether a component is a device.
+// Whether a component is a device. A test under a name, as the one above: written out in its only caller it is no plainer.
 fn any_device(kinds: &[u8]) -> bool
     ensures { result ≡ has_device kinds.now }
 {

@@ -6,10 +6,12 @@ ghost use Rattle.reasons.specs.Lent.{reasons_lent};
 ghost use Rattle.reasons.specs.Rows.{ReasonRoom, ReasonPut, ReasonsListed, plain, own_reasons, unequal_row, UnequalAsked};
 ghost use Rattle.reasons.specs.Told.{told};
 
+use rules::answers::ReasonKind;
 use rules::kinds::BlockKind;
 use rules::lent::{Components, LabelLists, ReasonLists};
 
 // A reason, with what it carries.
+// block is the kind's number, as list 3 has it: a BlockKind would be turned into the number again.
 #[derive(Clone, Copy)]
 enum Reason {
     UnequalReconvergentDelay {
@@ -45,13 +47,12 @@ pub(crate) fn list_temporal_reasons(
         ..
     } = *components;
     let mut count = 0;
-    let looped = 0 < feedback;
-    if looped {
+    if 0 < feedback {
         write_reason(Reason::FeedbackLoop, 0, reasons);
         count = 1;
     }
-    for (i, &id) in ids.iter().enumerate() {
-        if let Some(reason) = own_reason(id, kinds[i], locked[i]) {
+    for ((&id, &kind), &lock) in ids.iter().zip(kinds).zip(locked) {
+        if let Some(reason) = own_reason(id, kind, lock) {
             write_reason(reason, count, reasons);
             count += 1;
         }
@@ -97,7 +98,8 @@ pub(crate) fn list_unequal_reasons(
     start + unequal.len()
 }
 
-// Writes a reason to a place of list 3. A field that its case lacks holds 0.
+// Writes a reason to a place of list 3. A field that its case lacks holds 0. The place comes apart: list 3 is lent, and how far
+// it is filled is what each function answers.
 fn write_reason(reason: Reason, at: usize, reasons: &mut ReasonLists<'_>)
     requires { ReasonRoom (at + 1) (reasons_lent reasons.old) }
     ensures same { SameReasons reasons.old reasons.new }
@@ -108,12 +110,24 @@ fn write_reason(reason: Reason, at: usize, reasons: &mut ReasonLists<'_>)
             component,
             minimum,
             maximum,
-        } => (0, component, 0, minimum, maximum),
-        Reason::FeedbackLoop => (1, 0, 0, 0, 0),
-        Reason::StatefulOrMechanicalDevice { component, block } => (2, component, block, 0, 0),
-        Reason::LockedRepeater { component } => (3, component, 0, 0, 0),
+        } => (
+            ReasonKind::UnequalReconvergentDelay,
+            component,
+            0,
+            minimum,
+            maximum,
+        ),
+        Reason::FeedbackLoop => (ReasonKind::FeedbackLoop, 0, 0, 0, 0),
+        Reason::StatefulOrMechanicalDevice { component, block } => (
+            ReasonKind::StatefulOrMechanicalDevice,
+            component,
+            block,
+            0,
+            0,
+        ),
+        Reason::LockedRepeater { component } => (ReasonKind::LockedRepeater, component, 0, 0, 0),
     };
-    reasons.kinds[at] = kind;
+    reasons.kinds[at] = u8::from(kind);
     reasons.components[at] = component;
     reasons.blocks[at] = block;
     reasons.minimums[at] = minimum;

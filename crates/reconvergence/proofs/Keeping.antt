@@ -5,10 +5,11 @@ use lib.ListN.{drop}
 use Rattle.std.proofs.lemmas.List.{drop-set-lt}
 use Rattle.rules.specs.declared.delay.DelayRange.{DelayRange}
 use Rattle.graph.specs.declared.edges.Edges.{Edges}
-use Rattle.reconvergence.specs.Lent.{timed, relaxed, Standing, Kept}
+use Rattle.reconvergence.specs.Lent.{timed, relaxed, Standing, Kept, kept}
 use Rattle.reconvergence.specs.declared.lent.Delays.{Delays}
 use Rattle.reconvergence.specs.declared.lent.PathSums.{PathSums}
 use Rattle.reconvergence.specs.declared.lent.SumRoom.{SumRoom}
+use Rattle.reconvergence.specs.declared.worklist.Worklist.{Worklist}
 
 pub kept-none : (n : ℕ) (s : PathSums) (w : SumRoom) → Kept n s s w w
 kept-none n s w = record { settled = refl; smallest = refl; largest = refl; head = refl; next = refl }
@@ -23,7 +24,7 @@ kept-then k l = record {
 }
 
 -- one edge into v is relaxed
-pub kept-relaxed : {n : ℕ} {s s' : PathSums} {w w' : SumRoom} {c v c' : ℕ} {sum : DelayRange} → v < n → Standing s s' w w' → relaxed s w c v sum s' w' c' → Kept n s s' w w'
+pub kept-relaxed : {n : ℕ} {l l' : Worklist} {v : ℕ} {sum : DelayRange} → v < n → Standing l l' → relaxed l v sum l' → kept n l l'
 kept-relaxed {n} h k r = record {
   settled = k.settled;
   smallest = ap (drop n) r.small ∙ drop-set-lt _ _ _ _ h;

@@ -6,8 +6,8 @@ use mathlib.Core.List.{List, [], ◌∷◌, ◌++◌}
 use Prim.Native.Nat.{ℕ, ◌+◌, ◌<◌, ◌≤◌}
 use native.Mathlib.Omega.{arith}
 use native.Mathlib.Numerals.{add-one}
-use lib.ListN.{length, take, drop, set, replicate, length-set, length-take, length-replicate, get_or-replicate}
-use lib.Seq.{take_at, drop_at, take-suc, take-suc-set, get_or-take}
+use lib.ListN.{length, take, set, replicate, length-set, length-take, length-replicate, get_or-replicate}
+use lib.Seq.{take-suc, take-suc-set, get_or-take}
 use lib.Dec.{T, eqb}
 use borrow.Author.Tests.{eq-eqb, ne_eqb}
 use Rattle.rules.specs.Lists.{any, keep, count, indices}
@@ -93,12 +93,6 @@ front-zero xs n v e h = sym (get_or-take n xs v 0 h) ∙ ap (λ l. key_at l v) e
 front-size : (xs ys : List ℕ) (n : ℕ) → take n xs ≡ ys → length ys ≡ n → n ≤ length xs
 front-size xs ys n e l = omega (arith, length-take n xs, ap length e, l)
 
--- a front of zeros before the rest
-pub zeroed : (old new : List ℕ) (n : ℕ) → new ≡ replicate n 0 ++ drop n old → (take n new ≡ replicate n 0) × (drop n new ≡ drop n old)
-zeroed old new n f =
-    let k : length (replicate {A = ℕ} n 0) ≡ n = length-replicate n 0 in
-    (ap (take n) f ∙ take_at (replicate n 0) (drop n old) n k, ap (drop n) f ∙ drop_at (replicate n 0) (drop n old) n k)
-
 pub started : {sources sinks head next low high incoming left smallest largest queue : List ℕ} {c : ℕ} → TimedGraph sources sinks head next low high
     → Started (length low) sinks incoming left smallest largest queue c → Taking (edges_between sources sinks) (key_at low) (key_at high) (length low) incoming left smallest largest queue 0 c
 unfolding sum_over keep extreme any
@@ -123,7 +117,7 @@ started {sources} {sinks} {low} {incoming} {left} G s = record {
 }
   where
     counts : (v : ℕ) → v < length low → key_at incoming v ≡ in_count (edges_between sources sinks) v
-    counts v h = s.counted v (omega (arith, s.incomings)) ∙ sym (sink-count sources sinks v G.edges.pairs)
+    counts v h = sym (get_or-take (length low) incoming v 0 h) ∙ s.counted v (omega (arith, s.incomings, length-take (length low) incoming, h)) ∙ sym (sink-count sources sinks v G.edges.pairs)
 
     none : (b : Bool) → T (b && false) → ⊥
     none true t = t

@@ -96,8 +96,8 @@ module _ {sources sinks head next low high incoming left smallest largest queue 
   none_left : key_at left (key_at queue i) ≡ 0
   none_left = (ready_at P.state i h).1
 
-  pub leaving-start : Leaving es (key_at low) (key_at high) (length low) next sinks incoming queue i (key_at queue i) left smallest largest queue c (get_or head (key_at queue i) 0)
-  leaving-start = record {
+  pub leaving-start : {e : ℕ} → e ≡ get_or head (key_at queue i) 0 → Leaving es (key_at low) (key_at high) (length low) next sinks incoming queue i (key_at queue i) left smallest largest queue c e
+  leaving-start {e} first = record {
     passed = P.passed;
     state = P.state;
     after = h;
@@ -109,6 +109,7 @@ module _ {sources sinks head next low high incoming left smallest largest queue 
       P.taken p,
       ap (λ (us : List ℕ). count (leaves p us) es) (front P.state i h),
       leaves-more p (take i queue) (key_at queue i) es (new-at P.state i h),
+      ap (λ (k : ℕ). count p (out (key_at queue i) (ends next sinks k))) first,
       chain-edges p sources sinks head next (key_at queue i) G.indexed G.edges.pairs (omega (arith, G.heads, node_in)),
     );
   }

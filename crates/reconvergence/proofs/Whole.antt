@@ -18,12 +18,12 @@ use Rattle.reconvergence.specs.Pass.{Sized, Answered}
 
 -- the edges are linked by their sources
 pub timed : {sources sinks low high order settled smallest largest unequal head next incoming left queue head' next' : List ℕ} {r : Bool} → Sized sources sinks low high order settled smallest largest unequal head next incoming left queue
-    → length head' ≡ length head → EdgesIndexed sources head (take (length sources) next) head' next' r → TimedGraph sources sinks head' next' low high
+    → length head' ≡ length (take (length low) head) → EdgesIndexed sources (take (length low) head) (take (length sources) next) head' next' r → TimedGraph sources sinks head' next' low high
 unfolding index_fits
 timed {sources} {low} {head} {next} Z k i = record {
-  indexed = i.indexed (i.answer ∙ rw (eq-eqb (length (take (length sources) next)) (length sources) (length-take-le _ _ Z.links)) (sym (ends-all (length head) sources (λ e h. omega (arith, Z.edges.low e h, Z.heads)))));
+  indexed = i.indexed (i.answer ∙ rw (eq-eqb (length (take (length sources) next)) (length sources) (length-take-le _ _ Z.links)) (sym (ends-all (length (take (length low) head)) sources (λ e h. omega (arith, Z.edges.low e h, length-take-le (length low) head Z.heads)))));
   edges = Z.edges;
-  heads = omega (arith, k, Z.heads);
+  heads = omega (arith, k, length-take-le (length low) head Z.heads);
   highs = Z.highs;
 }
 

@@ -29,7 +29,7 @@ pub record Waiting (n : ℕ) (incoming left queue : List ℕ) (c : ℕ) : Type 0
 
 -- the lists of n nodes before one is taken
 pub record Started (n : ℕ) (sinks incoming left smallest largest queue : List ℕ) (c : ℕ) : Type 0 where
-  pub counted : EndsCounted sinks incoming
+  pub counted : EndsCounted sinks (take n incoming)
   pub incomings : n ≤ length incoming
   pub smallests : take n smallest ≡ replicate n 0
   pub largests : take n largest ≡ replicate n 0

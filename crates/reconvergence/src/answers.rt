@@ -11,12 +11,14 @@ pub(crate) fn mark_settled(left: &[usize], settled: &mut [u8])
     requires { length settled.old ≡ length left.now }
     ensures { settled.new ≡ done_marks left.now }
 {
+    // after `settled.iter_mut().zip(left)` the proof doesn't know what the entries hold
     for (v, &edges) in left.iter().enumerate() {
-        settled[v] = (edges == 0) as u8;
+        settled[v] = u8::from(edges == 0);
     }
 }
 
-// Lists the nodes of order with two edges or more into them and two sums that differ, and answers how many they are.
+// Lists the nodes of order with two edges or more into them and two sums that differ, and answers how many they are. There is
+// no heap for a Vec: the list is lent, and the count is the answer.
 pub(crate) fn list_unequal(
     order: &[usize],
     incoming: &[usize],

@@ -7,7 +7,7 @@ use crate::lent::{Delays, PathSums, SumRoom};
 use graph::adjacency::ends_below;
 use graph::edges::Edges;
 
-// Whether all lists fit.
+// Whether all lists fit. They come as the call is lent them, as those of find_unequal do.
 #[tactic(auto, unfolding(crate::specs::Fits::reconvergence_fits))]
 pub(crate) fn reconvergence_fits(
     edges: &Edges<'_>,
@@ -37,7 +37,7 @@ fn given_fits(edges: &Edges<'_>, order: &[usize], n: usize, highs: usize) -> boo
         && ends_below(order, n)
 }
 
-// Whether there is room for the answers.
+// Whether there is room for the answers. A test under a name, as the next: written out in its only caller it is no plainer.
 #[tactic(auto, unfolding(crate::specs::Fits::answers_fit))]
 fn answers_fit(n: usize, listed: usize, sums: &PathSums<'_>, unequal: usize) -> bool
     ensures { result ≡ answers_fit n listed (length sums.now.settled.now) (length sums.now.smallest.now) (length sums.now.largest.now) unequal }

@@ -34,6 +34,7 @@ pub fn reconvergent_delay_reasons(
     ensures same_room { SameSumRoom room.old room.new }
     ensures reasons { Reconvergence edges.now delays.now order.now sums.old sums.new unequal.old unequal.new room.old room.new result }
 {
+    // No `then`: its contract says nothing of a list that the closure has borrowed where it is not called.
     if reconvergence_fits(edges, delays, order, sums, unequal, room) {
         Some(find_unequal(edges, delays, order, sums, unequal, room))
     } else {

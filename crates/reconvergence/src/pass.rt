@@ -5,11 +5,12 @@ ghost use Rattle.reconvergence.specs.Lent.{SamePathSums, SameSumRoom, Kept, size
 use crate::answers::{list_unequal, mark_settled};
 use crate::lent::{Delays, PathSums, SumRoom};
 use crate::start::start;
-use crate::worklist::take_all;
+use crate::worklist::Worklist;
 use graph::adjacency::index_edges;
 use graph::edges::Edges;
 
-// Marks, sums and the list of nodes with unequal delays; answers how many it lists.
+// Marks, sums and the list of nodes with unequal delays; answers how many it lists. The lists come as the call is lent them: a
+// struct of them would be made for this and taken apart at once.
 pub(crate) fn find_unequal(
     edges: &Edges<'_>,
     delays: &Delays<'_>,
@@ -24,8 +25,14 @@ pub(crate) fn find_unequal(
     ensures answered { answered edges.now delays.now order.now sums.old sums.new unequal.old unequal.new result }
 {
     let n = delays.low.len();
+    // head is cut to the nodes, past which it would be cleared for nothing; next has to be as long as the edges
+    let head = &mut *room.head;
     let next = &mut *room.next;
-    index_edges(edges.sources, room.head, &mut next[..edges.sources.len()]);
+    index_edges(
+        edges.sources,
+        &mut head[..n],
+        &mut next[..edges.sources.len()],
+    );
     sum_paths(edges, delays, sums, room);
     mark_settled(&room.left[..n], &mut sums.settled[..n]);
     list_unequal(order, room.incoming, sums, unequal)
@@ -45,5 +52,10 @@ fn sum_paths(
     ensures kept { Kept (length delays.now.low.now) sums.old sums.new room.old room.new }
 {
     let waiting = start(edges.sinks, delays.low.len(), sums, room);
-    take_all(edges, delays, sums, room, waiting);
+    let mut worklist = Worklist {
+        sums,
+        room,
+        waiting,
+    };
+    worklist.take_all(edges, delays);
 }

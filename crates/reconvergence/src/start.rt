@@ -1,5 +1,5 @@
 // The lists before a node is taken: how many edges end at each node, sums of 0, and the nodes where no edge ends.
-ghost use Rattle.std.specs.Prelude.{◌≡◌, ◌≤◌, length, replicate, drop, ◌++◌};
+ghost use Rattle.std.specs.Prelude.{◌≡◌, ◌≤◌, length};
 ghost use Rattle.graph.specs.Adjacency.{Below};
 ghost use Rattle.reconvergence.specs.Lent.{SamePathSums, SameSumRoom, Kept, roomy};
 ghost use Rattle.reconvergence.specs.Pass.{Waiting, Started};
@@ -20,18 +20,14 @@ pub(crate) fn start(
     ensures started { Started n sinks.now room.new.incoming.now room.new.left.now sums.new.smallest.now sums.new.largest.now room.new.queue.now result }
     ensures kept { Kept n sums.old sums.new room.old room.new }
 {
-    count_ends(sinks, room.incoming);
-    clear(n, sums.smallest);
-    clear(n, sums.largest);
+    // cut to the nodes: the entries past them count nothing
+    let incoming = &mut *room.incoming;
+    let smallest = &mut *sums.smallest;
+    let largest = &mut *sums.largest;
+    count_ends(sinks, &mut incoming[..n]);
+    smallest[..n].fill(0);
+    largest[..n].fill(0);
     list_ready(n, room)
-}
-
-// No sum of the n nodes is more than 0.
-fn clear(n: usize, sums: &mut [u32])
-    requires { n ≤ length sums.old }
-    ensures { sums.new ≡ replicate n 0 ++ drop n sums.old }
-{
-    sums[..n].fill(0);
 }
 
 // All edges into a node are left; the nodes with none wait.
@@ -44,6 +40,7 @@ fn list_ready(n: usize, room: &mut SumRoom<'_>) -> usize
     ensures links { room.new.next.now ≡ room.old.next.now }
 {
     let mut count = 0;
+    // one index: v is the place in two lists, and what is written to the third; the count is the answer
     for v in 0..n {
         let edges = room.incoming[v];
         room.left[v] = edges;

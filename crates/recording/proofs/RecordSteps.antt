@@ -1,22 +1,17 @@
--- The recording of a trace: the record is tested, and grows where the trace is accepted. Assumes nothing.
-use mathlib.Core.Bool.{Bool, true, false}
+-- The recording of an accepted trace: the record grows. Assumes nothing.
 use mathlib.Core.List.{List, [], ◌∷◌}
-use mathlib.Core.Path.{◌≡◌, refl, sym, ap, subst, ◌∙◌}
+use mathlib.Core.Path.{◌≡◌, refl, ap, ◌∙◌}
 use Prim.Native.Nat.{ℕ, zero, suc, ◌+◌, ◌<◌, ◌≤◌, ◌^◌}
 use native.Mathlib.Omega.{arith}
-use lib.Dec.{leb, le→leb, leb→le}
 use lib.ListN.{length, get_or}
-use Rattle.std.specs.Prelude.{Result, Ok, Err}
+use Rattle.std.specs.Prelude.{Ok, Err}
 use Rattle.rules.specs.Lists.{sum}
-use Rattle.rules.specs.Refusals.{Checked, accepted, test}
+use Rattle.rules.specs.Refusals.{Checked, accepted}
 use Rattle.rules.specs.Verdicts.{tallies, FindingLists, finding_lengths}
-use Rattle.rules.specs.Traces.{trace_limits, TraceLists, trace_findings, transient_answer, AssessedBy, TraceCallFrom}
-use Rattle.rules.specs.Recording.{TransientRecord, record_false, record_tests, check_recording, add_tallies, grown, RecordCall}
-use Rattle.rules.specs.declared.answers.Refusal.{Refusal}
-use Rattle.rules.specs.declared.answers.RefusalKind.TheVariants.{RecordFull, RecordFalse}
+use Rattle.rules.specs.Traces.{trace_limits, TraceLists, trace_findings, transient_answer, AssessedBy}
+use Rattle.rules.specs.Recording.{TransientRecord, check_recording, add_tallies, grown, RecordCall}
 use Rattle.rules.specs.declared.transient.TransientAssessment.{TransientAssessment}
-use Rattle.rules.proofs.FirstRefusal.{stop, more, flag-set, flag-clear}
-use Rattle.rules.proofs.TraceAcceptance.{AcceptedRecording, checked→recording, refused-assessed}
+use Rattle.rules.proofs.TraceAcceptance.{AcceptedRecording, checked→recording}
 use Rattle.laws.proofs.TraceRoom.{findings-fit, tallies-sum}
 use Rattle.recording.specs.Held.{Addable}
 
@@ -30,21 +25,6 @@ entry-small (x ∷ l) (suc k) = omega (arith, entry-small l k)
 module _ (r : TransientRecord) (t : TraceLists) (old : FindingLists) where
   abbrev checked : Checked
   checked = check_recording trace_limits r t (finding_lengths old)
-
-  -- The tests of the record, then those of the trace
-  module _ {b : Bool} (told : b ≡ record_false trace_limits r) where
-    pub false-record : b ≡ true → AssessedBy checked r.findings t old old (Err (record { kind = RecordFalse; place = 0 }))
-    unfolding check_recording record_tests
-    false-record e = refused-assessed old (sym (stop (record_false trace_limits r) _ (flag-set told e)))
-
-    module _ (is_true : b ≡ false) where
-      pub full-record : 64 ≤ r.traces → AssessedBy checked r.findings t old old (Err (record { kind = RecordFull; place = 0 }))
-      unfolding check_recording record_tests
-      full-record h = refused-assessed old (sym (more (test (record_false trace_limits r) RecordFalse 0) _ (flag-clear told is_true) (stop (leb 64 r.traces) _ (le→leb 64 r.traces h))))
-
-      pub then-traced : r.traces < 64 → {new : FindingLists} {a : Result TransientAssessment Refusal} → TraceCallFrom trace_limits r.findings t old new a → AssessedBy checked r.findings t old new a
-      unfolding check_recording record_tests
-      then-traced h {new} {a} = subst (λ v. AssessedBy v r.findings t old new a) (more (test (record_false trace_limits r) RecordFalse 0) _ (flag-clear told is_true) (more (test (leb 64 r.traces) RecordFull 0) _ (λ s. omega (arith, leb→le 64 r.traces s)) refl))
 
   -- An accepted trace
   module _ {new : FindingLists} {a : TransientAssessment} (call : AssessedBy checked r.findings t old new (Ok a)) where

@@ -11,7 +11,7 @@ use rules::transient::TransientAssessment;
 
 // Traces held, findings held, and a tally for each verdict by its number.
 #[repr(C)]
-#[derive(Clone, Copy, PartialEq, Eq, Debug)]
+#[derive(Clone, Copy, PartialEq, Eq, Debug, Default)]
 pub struct TransientRecord {
     pub traces: u64,
     pub findings: u64,
@@ -67,15 +67,10 @@ impl TransientRecord {
         requires tallies { Addable self.tallies assessment.tallies }
         ensures { record_of result ≡ record { traces = suc self.traces; findings = self.findings + assessment.findings; tallies = add_tallies self.tallies assessment.tallies } }
     {
-        let TransientRecord {
-            traces,
-            findings,
-            tallies,
-        } = self;
         TransientRecord {
-            traces: traces + 1,
-            findings: findings + assessment.findings,
-            tallies: add_tallies(tallies, assessment.tallies),
+            traces: self.traces + 1,
+            findings: self.findings + assessment.findings,
+            tallies: add_tallies(self.tallies, assessment.tallies),
         }
     }
 }

@@ -14,6 +14,7 @@ use transient::trace::assess_from;
 
 impl TransientRecord {
     // Tests the record, 15 and 13, then judges a trace and writes its findings to list 9 after those held.
+    #[tactic(auto, unfolding(rules::specs::Recording::check_recording, rules::specs::Recording::record_tests, rules::specs::Refusals::first_refusal))]
     fn assess(
         self,
         trace: &Trace<'_>,
@@ -37,7 +38,7 @@ impl TransientRecord {
         assess_from(self.findings as usize, trace, findings)
     }
 
-    // The call on a record that is lent: it is taken apart and handed on by value, and what comes back is stored.
+    // The call on a record that is lent.
     pub fn record_trace(
         &mut self,
         trace: &Trace<'_>,
@@ -46,17 +47,7 @@ impl TransientRecord {
         ensures same { SameFindings findings.old findings.new }
         ensures recorded { RecordCall trace_limits (record_of self.old) (trace_lent trace.now) (findings_lent findings.old) (findings_lent findings.new) (recorded_numbers result) (record_of self.new) }
     {
-        let TransientRecord {
-            traces,
-            findings: found,
-            tallies,
-        } = *self;
-        let held = TransientRecord {
-            traces,
-            findings: found,
-            tallies,
-        };
-        let after = recorded(held, trace, findings);
+        let after = recorded(*self, trace, findings);
         *self = after.held;
         after.answer
     }

@@ -1,5 +1,5 @@
-// The stored sample replayed. Standard input has texts one after another, each with the report that the Rust has for it: a header of two
-// lengths, the text, the report. Each text is answered anew and held against its report, byte for byte.
+// The stored sample replayed. Standard input has texts one after another, each with the report that the Rust has for it: a
+// header of two lengths, the text, the report. Each text is answered anew and held against its report, byte for byte.
 #![tactic(auto)]
 
 ghost use Rattle.rules.specs.Report.{report_of};
@@ -15,10 +15,11 @@ const TEXT_ROOM: usize = 65600;
 
 const WANTED_ROOM: usize = 262144;
 
-// The room that a run is lent: for a text, the report that is wanted and the report that is made. Arrays behind references: their lengths
-// are known by their types, so nothing computes on a million zeros.
+// A sample and the room in which it is replayed: for a text, the report that is wanted and the report that is made. Arrays
+// behind references: their lengths are known by their types, so nothing computes on a million zeros.
 #[derive(Drop)]
-struct Rooms<'a> {
+struct Sample<'a, R> {
+    input: &'a mut R,
     text: &'a mut [u8; TEXT_ROOM],
     wanted: &'a mut [u8; WANTED_ROOM],
     out: &'a mut [u8; REPORT_ROOM],
@@ -37,20 +38,19 @@ impl From<io::Error> for Stop {
     }
 }
 
-// A number with one more digit; what is no digit leaves it, and so do digits past eight.
+// A number with one more digit. No `parse`: what is no digit is passed over, and so are digits past eight.
 fn with_digit(number: usize, byte: u8) -> usize {
     if number >= 10000000 || !byte.is_ascii_digit() {
         return number;
     }
-    number * 10 + (byte - b'0') as usize
+    number * 10 + usize::from(byte - b'0')
 }
 
+// The number that the digits of some bytes make.
 fn number(digits: &[u8]) -> usize {
-    let mut number = 0;
-    for byte in digits {
-        number = with_digit(number, *byte);
-    }
-    number
+    digits
+        .iter()
+        .fold(0, |number, &byte| with_digit(number, byte))
 }
 
 // Reads the next bytes of the input, so many of them.
@@ -69,22 +69,6 @@ fn answered(text: &[u8], wanted: &[u8], out: &mut [u8; REPORT_ROOM]) -> bool
 {
     let n = report_text(text, &mut *out);
     wanted == &out[..n]
-}
-
-// Whether the next text gets its report, or that the sample has ended. A header is two numbers of eight digits, each with a byte behind it.
-fn replay_next<R: Read>(input: &mut R, rooms: &mut Rooms<'_>) -> Result<Option<bool>, Stop> {
-    let mut header = [0u8; 9];
-    if read_full(input, &mut header)? == 0 {
-        return Ok(None);
-    }
-    let text_length = number(&header);
-    read_part(input, &mut header, 9)?;
-    let report_length = number(&header);
-    read_part(input, rooms.text, text_length)?;
-    read_part(input, rooms.wanted, report_length)?;
-    let text = &rooms.text[..text_length];
-    let wanted = &rooms.wanted[..report_length];
-    Ok(Some(answered(text, wanted, rooms.out)))
 }
 
 // What has come of the texts so far; the first that differs is numbered from 1.
@@ -116,28 +100,43 @@ impl fmt::Display for Tally {
     }
 }
 
-// A proved loop has to end: a sample has fewer than a million texts.
-fn replay_texts<R: Read>(
-    input: &mut R,
-    rooms: &mut Rooms<'_>,
-    tally: &mut Tally,
-) -> Result<(), Stop> {
-    for _ in 0..1000000u64 {
-        let Some(same) = replay_next(input, rooms)? else {
-            break;
-        };
-        tally.add(same);
+impl<R: Read> Sample<'_, R> {
+    // Whether the next text gets its report, or that the sample has ended. A header is two numbers of eight digits, each with a
+    // byte behind it.
+    fn replay_next(&mut self) -> Result<Option<bool>, Stop> {
+        let mut header = [0u8; 18];
+        let read = read_full(self.input, &mut header)?;
+        if read == 0 {
+            return Ok(None);
+        }
+        if read < header.len() {
+            return Err(Stop::BrokenOff);
+        }
+        let text_length = number(&header[..9]);
+        let report_length = number(&header[9..]);
+        let text = &mut *self.text;
+        read_part(self.input, text, text_length)?;
+        let wanted = &mut *self.wanted;
+        read_part(self.input, wanted, report_length)?;
+        let same = answered(&text[..text_length], &wanted[..report_length], self.out);
+        Ok(Some(same))
     }
-    Ok(())
+
+    // A proved loop has to end: a sample has fewer than a million texts.
+    fn replay(&mut self, tally: &mut Tally) -> Result<(), Stop> {
+        for _ in 0..1000000u64 {
+            let Some(same) = self.replay_next()? else {
+                break;
+            };
+            tally.add(same);
+        }
+        Ok(())
+    }
 }
 
-fn replay<R: Read, W: Write>(
-    input: &mut R,
-    output: &mut W,
-    rooms: &mut Rooms<'_>,
-) -> io::Result<()> {
+fn print_replay<R: Read, W: Write>(sample: &mut Sample<'_, R>, output: &mut W) -> io::Result<()> {
     let mut tally = Tally::default();
-    let ending = match replay_texts(input, rooms, &mut tally) {
+    let ending = match sample.replay(&mut tally) {
         Ok(()) => "",
         Err(Stop::BrokenOff) => "; the sample breaks off",
         Err(Stop::Failed(error)) => return Err(error),
@@ -149,13 +148,11 @@ fn main(rt: HostRuntime) -> io::Result<()> {
     let mut text = [0u8; TEXT_ROOM];
     let mut wanted = [0u8; WANTED_ROOM];
     let mut out = [0u8; REPORT_ROOM];
-    replay(
-        &mut rt.stdin(),
-        &mut rt.stdout(),
-        &mut Rooms {
-            text: &mut text,
-            wanted: &mut wanted,
-            out: &mut out,
-        },
-    )
+    let mut sample = Sample {
+        input: &mut rt.stdin(),
+        text: &mut text,
+        wanted: &mut wanted,
+        out: &mut out,
+    };
+    print_replay(&mut sample, &mut rt.stdout())
 }

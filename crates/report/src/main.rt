@@ -18,26 +18,9 @@ const INPUT_ROOM: usize = MAX_TEXT + 1;
 fn print<W: Write, E: Write>(output: &mut W, errors: &mut E, report: &[u8]) -> io::Result<()>
     ensures { OnOk result (Appends (W.contents output.old) (W.contents output.new) report.now) }
 {
-    match output.write_all(report) {
-        Ok(()) => Ok(()),
-        Err(e) => {
-            let _ = errors.write_all(b"report: the report could not be written whole\n");
-            Err(e)
-        }
-    }
-}
-
-// The contract of report_text says that the whole report stands in `out`.
-fn answer<W: Write, E: Write>(
-    output: &mut W,
-    errors: &mut E,
-    text: &[u8],
-    out: &mut [u8; REPORT_ROOM],
-) -> io::Result<()>
-    ensures { OnOk result (Appends (W.contents output.old) (W.contents output.new) (report_of text.now)) }
-{
-    let n = report_text(text, &mut *out);
-    print(output, errors, &out[..n])
+    output.write_all(report).inspect_err(|_| {
+        let _ = errors.write_all(b"report: the report could not be written whole\n");
+    })
 }
 
 // What is written is the report of the whole input, for a reader and a writer whose bytes a contract can name; those of
@@ -57,7 +40,8 @@ fn run<R: Read, W: Write, E: Write>(
         // The rest is read too, so that its writer is not cut off; that it can't be read is no fault of the report.
         let _ = io::copy(input, &mut io::sink());
     }
-    answer(output, errors, &text[..n], out)
+    let size = report_text(&text[..n], &mut *out);
+    print(output, errors, &out[..size])
 }
 
 fn main(rt: HostRuntime) -> io::Result<()> {

@@ -6,6 +6,8 @@ use Rattle.rules.specs.declared.kinds.EdgeBehavior.{EdgeBehavior}
 use Rattle.rules.specs.declared.kinds.EdgeBehavior.TheVariants.{Immediate, DelayedForward, DelayedInvert, Analog, Mechanical, OrderSensitive}
 use Rattle.rules.specs.declared.kinds.TemporalSemantics.{TemporalSemantics}
 use Rattle.rules.specs.declared.kinds.TemporalSemantics.TheVariants as Semantics
+use Rattle.rules.specs.declared.answers.ReasonKind.{ReasonKind}
+use Rattle.rules.specs.declared.answers.ReasonKind.TheVariants as Reason
 use Rattle.rules.specs.declared.answers.TemporalScope.{TemporalScope}
 use Rattle.rules.specs.declared.answers.TemporalScope.TheVariants.{SteadyStateSafe, TimingSensitive, TemporalRequired}
 use Rattle.rules.specs.declared.answers.BehaviorPattern.{BehaviorPattern}
@@ -77,6 +79,13 @@ rationale_code Why.PulseFits = 6
 rationale_code Why.PulseDiffers = 7
 rationale_code Why.WithinTolerance = 8
 rationale_code Why.PastTolerance = 9
+
+-- the kinds of list 3, in the order of the Rust's reasons
+abbrev pub reason_kind_code : ReasonKind → ℕ
+reason_kind_code Reason.UnequalReconvergentDelay = 0
+reason_kind_code Reason.FeedbackLoop = 1
+reason_kind_code Reason.StatefulOrMechanicalDevice = 2
+reason_kind_code Reason.LockedRepeater = 3
 
 -- the numbers of the table of refusals: Number | Condition | Place
 abbrev pub refusal_code : RefusalKind → ℕ

@@ -9,6 +9,10 @@ use Rattle.rules.specs.declared.transient.PulsePolarity.{PulsePolarity}
 use Rattle.rules.specs.declared.transient.PulsePolarity.TheVariants.{High, Low}
 use Rattle.rules.specs.declared.transient.TraceTimeUnit.{TraceTimeUnit}
 use Rattle.rules.specs.declared.transient.TraceTimeUnit.TheVariants.{RedstoneTick, GameTick}
+use Rattle.rules.specs.declared.transient.IntentKind.{IntentKind}
+use Rattle.rules.specs.declared.transient.IntentKind.TheVariants as Intent
+use Rattle.rules.specs.declared.answers.ReasonKind.{ReasonKind}
+use Rattle.rules.specs.declared.answers.ReasonKind.TheVariants as Why
 
 -- the value at a code in the row of all of them
 module _ {A : Type 0} where
@@ -40,3 +44,10 @@ ReadsPolarity = Reads (High ∷ Low ∷ [])
 
 abbrev pub ReadsUnit : ℕ → Result TraceTimeUnit UnknownCode → Type 0
 ReadsUnit = Reads (RedstoneTick ∷ GameTick ∷ [])
+
+-- "Intents and what they use: 0 SteadyStateOnly, 1 Stable (powered), 2 IntentionalPulse (polarity, unit, both widths), 3 MaximumPulseWidth"
+abbrev pub ReadsIntent : ℕ → Result IntentKind UnknownCode → Type 0
+ReadsIntent = Reads (Intent.SteadyStateOnly ∷ Intent.Stable ∷ Intent.IntentionalPulse ∷ Intent.MaximumPulseWidth ∷ [])
+
+abbrev pub ReadsReasonKind : ℕ → Result ReasonKind UnknownCode → Type 0
+ReadsReasonKind = Reads (Why.UnequalReconvergentDelay ∷ Why.FeedbackLoop ∷ Why.StatefulOrMechanicalDevice ∷ Why.LockedRepeater ∷ [])

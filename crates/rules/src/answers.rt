@@ -1,6 +1,9 @@
 // What the checks and the scene calls answer.
-ghost use Rattle.rules.specs.Codes.{scope_code, pattern_code, refusal_code};
+ghost use Rattle.rules.specs.Codes.{scope_code, pattern_code, refusal_code, reason_kind_code};
+ghost use Rattle.rules.specs.Decoded.{ReadsReasonKind};
 ghost use Rattle.std.specs.Prelude.{◌≡◌};
+
+use crate::kinds::UnknownCode;
 
 // The conditions of the table of refusals, numbered as they are there.
 #[derive(Clone, Copy, PartialEq, Eq, Debug)]
@@ -35,6 +38,63 @@ impl From<RefusalKind> for u32 {
 pub struct Refusal {
     pub kind: RefusalKind,
     pub place: u64,
+}
+
+// The record kinds, numbered as refusal 8 places them.
+#[derive(Clone, Copy, PartialEq, Eq, Debug)]
+pub enum RecordKind {
+    Components,
+    Connections,
+    Events,
+    Contracts,
+}
+
+// The output lists, numbered as document 01 numbers them.
+#[derive(Clone, Copy, PartialEq, Eq, Debug)]
+pub enum OutputList {
+    TimedEdges,
+    Devices,
+    Evidence,
+    Reasons,
+    FeedbackIds,
+    Marks,
+    Projected,
+    Paths,
+    Labels,
+    Findings,
+}
+
+// The kinds of list 3's reasons.
+#[derive(Clone, Copy, PartialEq, Eq, Debug)]
+pub enum ReasonKind {
+    UnequalReconvergentDelay,
+    FeedbackLoop,
+    StatefulOrMechanicalDevice,
+    LockedRepeater,
+}
+
+impl From<ReasonKind> for u8 {
+    ghost from_gives = { λ kind code. code ≡ reason_kind_code kind };
+
+    fn from(kind: ReasonKind) -> u8 {
+        kind as u8
+    }
+}
+
+impl TryFrom<u8> for ReasonKind {
+    type Error = UnknownCode;
+
+    ghost try_from_gives = { ReadsReasonKind };
+
+    fn try_from(code: u8) -> Result<Self, UnknownCode> {
+        match code {
+            0 => Ok(ReasonKind::UnequalReconvergentDelay),
+            1 => Ok(ReasonKind::FeedbackLoop),
+            2 => Ok(ReasonKind::StatefulOrMechanicalDevice),
+            3 => Ok(ReasonKind::LockedRepeater),
+            _ => Err(UnknownCode),
+        }
+    }
 }
 
 // How many entries of list 4 are used, and how many Feedback reasons there are: one, or none.

@@ -1,7 +1,9 @@
-// The number lists that calls are lent, one for each field. Those that a call reads are handed on by copies of the
-// references; those that it writes are lent for the call.
+// The number lists that calls are lent, one for each field: the C interface has a pointer and a length for each, so records
+// are not one list of structs. Those that a call reads are handed on by copies of the references; those that it writes are
+// lent for the call, and how many entries of them are used is what the call answers.
 
-// The components of a scene, and its connections: a number list for each field, all of one record kind as long as one another.
+// The components of a scene: a number list for each field, as long as one another where the tests of a call have passed. That
+// they are is asked where it is used: public functions take components untested, and each pass needs other columns.
 #[derive(Clone, Copy)]
 pub struct Components<'a> {
     pub ids: &'a [u64],
@@ -13,6 +15,7 @@ pub struct Components<'a> {
     pub zs: &'a [i32],
 }
 
+// The connections of a scene, likewise.
 #[derive(Clone, Copy)]
 pub struct Connections<'a> {
     pub sources: &'a [u64],
@@ -26,7 +29,7 @@ pub struct Scene<'a> {
     pub connections: Connections<'a>,
 }
 
-// The events of a trace, and its contracts.
+// The events of a trace.
 #[derive(Clone, Copy)]
 pub struct Events<'a> {
     pub ticks: &'a [u64],
@@ -34,6 +37,7 @@ pub struct Events<'a> {
     pub powered: &'a [u8],
 }
 
+// The contracts by which a trace is judged.
 #[derive(Clone, Copy)]
 pub struct Contracts<'a> {
     pub components: &'a [u64],
@@ -45,7 +49,7 @@ pub struct Contracts<'a> {
     pub largest: &'a [u64],
 }
 
-// A trace: the number of its time unit, its events and the contracts by which it is judged.
+// A trace: the number of its time unit, its events and its contracts.
 #[derive(Clone, Copy)]
 pub struct Trace<'a> {
     pub unit: u8,
@@ -53,7 +57,7 @@ pub struct Trace<'a> {
     pub contracts: Contracts<'a>,
 }
 
-// Lists 0, 1 and 2.
+// List 0.
 #[derive(Drop)]
 pub struct TimedEdgeLists<'a> {
     pub sources: &'a mut [u64],
@@ -63,6 +67,7 @@ pub struct TimedEdgeLists<'a> {
     pub behaviors: &'a mut [u8],
 }
 
+// List 1.
 #[derive(Drop)]
 pub struct DeviceLists<'a> {
     pub components: &'a mut [u64],
@@ -73,6 +78,7 @@ pub struct DeviceLists<'a> {
     pub delays: &'a mut [u32],
 }
 
+// List 2.
 #[derive(Drop)]
 pub struct EvidenceLists<'a> {
     pub kinds: &'a mut [u8],

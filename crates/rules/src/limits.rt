@@ -14,3 +14,6 @@ pub const MAX_FINDINGS_EACH: u64 = 4096;
 
 // The bytes that a scene's text may have; specs/Text.antt has the same number in `max_text`.
 pub const MAX_TEXT: usize = 65536;
+
+// The delay word of a component that has none; specs/Refusals.antt refuses the words past it.
+pub const NO_DELAY: u16 = 256;

@@ -1,7 +1,7 @@
 // Pulses and verdicts.
 ghost use Rattle.std.specs.Prelude.{◌≡◌};
 ghost use Rattle.rules.specs.Codes.{polarity_code, unit_code, verdict_code, rationale_code};
-ghost use Rattle.rules.specs.Decoded.{ReadsPolarity, ReadsUnit};
+ghost use Rattle.rules.specs.Decoded.{ReadsPolarity, ReadsUnit, ReadsIntent};
 
 use crate::kinds::UnknownCode;
 
@@ -75,6 +75,31 @@ impl From<TransientVerdict> for u8 {
 
     fn from(verdict: TransientVerdict) -> u8 {
         verdict as u8
+    }
+}
+
+// The intents, numbered as a contract has them.
+#[derive(Clone, Copy, PartialEq, Eq, Debug)]
+pub enum IntentKind {
+    SteadyStateOnly,
+    Stable,
+    IntentionalPulse,
+    MaximumPulseWidth,
+}
+
+impl TryFrom<u8> for IntentKind {
+    type Error = UnknownCode;
+
+    ghost try_from_gives = { ReadsIntent };
+
+    fn try_from(code: u8) -> Result<Self, UnknownCode> {
+        match code {
+            0 => Ok(IntentKind::SteadyStateOnly),
+            1 => Ok(IntentKind::Stable),
+            2 => Ok(IntentKind::IntentionalPulse),
+            3 => Ok(IntentKind::MaximumPulseWidth),
+            _ => Err(UnknownCode),
+        }
     }
 }
 

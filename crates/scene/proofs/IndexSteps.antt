@@ -1,6 +1,5 @@
--- A scene tested and indexed, step by step. Assumes nothing.
+-- The rows of a scene tested and indexed, step by step. Assumes nothing.
 use mathlib.Core.Bool.{Bool}
-use mathlib.Core.List.Memᴰ
 use mathlib.Core.List.{List}
 use mathlib.Core.Path.{◌≡◌, refl, sym, ap, subst, fun_ext, ◌∙◌}
 use Prim.Native.Nat.{ℕ, ◌≤◌}
@@ -12,17 +11,16 @@ use Rattle.rules.specs.Ordered.{ordered}
 use Rattle.rules.specs.Graph.{edges_between}
 use Rattle.rules.specs.Positions.{Positioned}
 use Rattle.rules.specs.Scene.{ComponentLists, ConnectionLists, edges_of, connections_of}
-use Rattle.rules.specs.Refusals.{Output, SceneLimits, scene_limits, accepted, first_refusal, component_tests, connection_tests, size_tests, scene_tests, check_scene, rows}
+use Rattle.rules.specs.Refusals.{accepted, first_refusal, component_tests, connection_tests, rows}
 use Rattle.rules.specs.declared.answers.Refusal.{Refusal}
 use Rattle.rules.proofs.Lists.{and_both, chosen}
 use Rattle.rules.proofs.Ordering.{ordered-length}
 use Rattle.rules.proofs.Written.{written-front}
-use Rattle.rules.proofs.FirstRefusal.{skip, stay, at_most, none-holds}
-use Rattle.rules.proofs.Acceptance.{aligned-components, aligned-connections}
+use Rattle.rules.proofs.FirstRefusal.{skip, stay}
 use Rattle.order.specs.Sorted.{sort_fits, SortedPositions}
 use Rattle.scene.specs.Lent.{PositionLists, position_lists}
 use Rattle.scene.specs.Ends.{ids_alone, EndsFound}
-use Rattle.scene.specs.Indexed.{Sized, PositionsOf, Tested, rows_found}
+use Rattle.scene.specs.Indexed.{PositionsOf, Tested, rows_found}
 
 -- a sort with room for every position writes them all
 pub sorted_front : (keys order scratch order' scratch' : List ℕ) (r : Bool) → length keys ≤ length order → length keys ≤ length scratch → SortedPositions keys order scratch order' scratch' r
@@ -57,28 +55,3 @@ module _ (l : ComponentLists) (m : ConnectionLists) where
           → IfOk answer (PositionsOf l.ids m (position_lists order starts stops))
       placed (Ok e) few positions = record { sorted = s; edges_few = few; positioned = positions }
       placed (Err r) few positions = tt
-
-module _ (limits : SceneLimits) (l : ComponentLists) (m : ConnectionLists) (outputs : List Output) (p : PositionLists) where
-  pub sizes-refused : (r : Refusal) → Err r ≡ first_refusal (size_tests limits l m outputs) → Tested (check_scene limits l m outputs) l.ids m p (Err r)
-  unfolding check_scene scene_tests
-  sizes-refused r e = record { checked = stay (size_tests limits l m outputs) _ e; accepted = tt }
-
-  pub rows-indexed : (answer : Result ℕ Refusal) → accepted ≡ first_refusal (size_tests limits l m outputs) → Tested (rows_found l m) l.ids m p answer → Tested (check_scene limits l m outputs) l.ids m p answer
-  unfolding check_scene scene_tests
-  rows-indexed answer e r = record { checked = skip (size_tests limits l m outputs) _ e r.checked; accepted = r.accepted }
-
-pub sized : (l : ComponentLists) (m : ConnectionLists) (outputs : List Output) → accepted ≡ first_refusal (size_tests scene_limits l m outputs) → Sized l m
-unfolding size_tests
-sized l m outputs e =
-    let none = none-holds (size_tests scene_limits l m outputs) (sym e) in
-    let a = aligned-components l (none _ (Memᴰ.head refl)) in
-    let b = aligned-connections m (none _ (Memᴰ.tail (Memᴰ.head refl))) in
-    record {
-      kinds_length = a.kinds_length;
-      delays_length = a.delays_length;
-      locked_length = a.locked_length;
-      sinks_length = b.sinks_length;
-      transfers_length = b.transfers_length;
-      components_few = at_most scene_limits.components (length l.ids) (none _ (Memᴰ.tail (Memᴰ.tail (Memᴰ.head refl))));
-      connections_few = at_most scene_limits.connections (length m.sources) (none _ (Memᴰ.tail (Memᴰ.tail (Memᴰ.tail (Memᴰ.head refl)))));
-    }

@@ -1,6 +1,7 @@
 -- The tests in their order, step by step:
 pub mod Room
 pub mod SizeSteps
+pub mod SideBySide
 pub mod Repeats
 pub mod ComponentSteps
 pub mod Named
@@ -9,5 +10,5 @@ pub mod ConnectionSteps
 -- a scene that is accepted, and its Feedback:
 pub mod IndexSteps
 pub mod PositionSteps
+pub mod PlaceSteps
 pub mod SceneFeedback
-pub mod WithRoom

@@ -3,7 +3,7 @@ use mathlib.Core.Bool.{Bool, true, false, cond}
 use mathlib.Core.List.{List}
 use mathlib.Core.Path.{◌≡◌, sym, ap, subst, ◌∙◌}
 use mathlib.Core.Logic.{◌⊎◌, inl, inr, ⊎_elim}
-use Prim.Native.Nat.{ℕ, suc, ◌+◌, ◌-◌, ◌<◌, ◌≤◌, min}
+use Prim.Native.Nat.{ℕ, suc, ◌+◌, ◌<◌, ◌≤◌, min}
 use native.Mathlib.Omega.{arith}
 use lib.Dec.{T, eqb, eqb→eq}
 use lib.ListN.{length, get_or}
@@ -23,51 +23,44 @@ module _ (ids : List ℕ) where
   abbrev at : ℕ → ℕ
   at k = get_or (ordered ids) k 0
 
-  -- what is known once the places before k are compared
+  -- what is known once the first k pairs of neighbours are compared
   pub record RepeatBelow (k first : ℕ) : Type 0 where
     pub inside : first ≤ length ids
-    pub least : (j : ℕ) → suc j < k → key_at ids (at j) ≡ key_at ids (at (suc j)) → first ≤ at (suc j)
+    pub least : (j : ℕ) → j < k → key_at ids (at j) ≡ key_at ids (at (suc j)) → first ≤ at (suc j)
     pub repeats : first < length ids → T (used_earlier ids first)
 
-  pub repeat-start : RepeatBelow 1 (length ids)
-  repeat-start = record { inside = omega arith; least = λ j h e. absurd (omega arith); repeats = λ h. absurd (omega arith) }
-
-  pub repeat-more : (k first : ℕ) → 1 ≤ k → k < length ids → RepeatBelow k first
-      → RepeatBelow (k + 1) (earlier (key_at ids (at (k - 1))) (key_at ids (at k)) (at k) first)
-  repeat-more k first p h r = go (eqb a b) (λ t. eqb→eq a b t) (λ e. eq_test e)
+  pub repeat-more : (k first : ℕ) → suc k < length ids → RepeatBelow k first → RepeatBelow (k + 1) (earlier (key_at ids (at k)) (key_at ids (at (suc k))) (at (suc k)) first)
+  repeat-more k first h r = go (eqb a b) (λ t. eqb→eq a b t) (λ e. eq_test e)
     where
       a : ℕ
-      a = key_at ids (at (k - 1))
+      a = key_at ids (at k)
 
       b : ℕ
-      b = key_at ids (at k)
+      b = key_at ids (at (suc k))
 
-      here : suc (k - 1) ≡ k
-      here = omega arith
+      next : ℕ
+      next = at (suc k)
 
-      used : a ≡ b → T (used_earlier ids (at k))
-      used e = subst (λ x. T (used_earlier ids (at x))) here (neighbour→used ids (k - 1) (omega arith) (e ∙ ap (λ x. key_at ids (at x)) (sym here)))
+      place : (j : ℕ) → j < k + 1 → (j < k) ⊎ (j ≡ k)
+      place j l = ⊎_elim (λ g. inr (omega arith)) (λ g. inl g) (order k j)
 
-      place : (j : ℕ) → suc j < k + 1 → (suc j < k) ⊎ (j ≡ k - 1)
-      place j l = ⊎_elim (λ g. inr (omega arith)) (λ g. inl g) (order k (suc j))
-
-      go : (t : Bool) → (T t → a ≡ b) → (a ≡ b → T t) → RepeatBelow (k + 1) (cond t (min (at k) first) first)
+      go : (t : Bool) → (T t → a ≡ b) → (a ≡ b → T t) → RepeatBelow (k + 1) (cond t (min next first) first)
       go true f g = record {
         inside = omega (arith, r.inside);
-        least = λ j l e. ⊎_elim (λ m. omega (arith, r.least j m e)) (λ m. let n : at (suc j) ≡ at k = ap at (omega arith) in omega (arith, n)) (place j l);
-        repeats = λ l. smaller l (order first (at k));
+        least = λ j l e. ⊎_elim (λ m. omega (arith, r.least j m e)) (λ m. let n : at (suc j) ≡ next = ap (λ x. at (suc x)) m in omega (arith, n)) (place j l);
+        repeats = λ l. smaller l (order first next);
       }
         where
-          smaller : min (at k) first < length ids → (first ≤ at k) ⊎ (at k < first) → T (used_earlier ids (min (at k) first))
-          smaller l (inl m) = let e : first ≡ min (at k) first = omega arith in subst (λ x. T (used_earlier ids x)) e (r.repeats (omega arith))
-          smaller l (inr m) = let e : at k ≡ min (at k) first = omega arith in subst (λ x. T (used_earlier ids x)) e (used (f tt))
+          smaller : min next first < length ids → (first ≤ next) ⊎ (next < first) → T (used_earlier ids (min next first))
+          smaller l (inl m) = let e : first ≡ min next first = omega arith in subst (λ x. T (used_earlier ids x)) e (r.repeats (omega arith))
+          smaller l (inr m) = let e : next ≡ min next first = omega arith in subst (λ x. T (used_earlier ids x)) e (neighbour→used ids k (omega arith) (f tt))
       go false f g = record {
         inside = r.inside;
-        least = λ j l e. ⊎_elim (λ m. r.least j m e) (λ m. absurd (g (ap (λ x. key_at ids (at x)) (sym m) ∙ e ∙ ap (λ x. key_at ids (at x)) (omega arith)))) (place j l);
+        least = λ j l e. ⊎_elim (λ m. r.least j m e) (λ m. absurd (g (ap (λ x. key_at ids (at x)) (sym m) ∙ e ∙ ap (λ x. key_at ids (at (suc x))) m))) (place j l);
         repeats = r.repeats;
       }
 
-  pub repeat-end : (k first : ℕ) → length ids ≤ k → RepeatBelow k first → FirstRepeat ids first
+  pub repeat-end : (k first : ℕ) → length ids ≤ suc k → RepeatBelow k first → FirstRepeat ids first
   repeat-end k first h r = record {
     inside = r.inside;
     none_before = λ i l t.

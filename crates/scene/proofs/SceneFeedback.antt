@@ -2,13 +2,12 @@
 use mathlib.Core.List.Memᴰ
 use mathlib.Core.List.{List, [], ◌∷◌}
 use mathlib.Core.Path.{◌≡◌, refl, sym, ap, ◌∙◌}
-use Prim.Native.Nat.{ℕ, ◌≤◌}
+use Prim.Native.Nat.{ℕ}
 use native.Mathlib.Omega.{arith}
 use borrow.Author.Tests.{lt-ltb}
 use mir.Val.{bool_byte}
 use lib.Dec.{ltb}
-use lib.ListN.{length, take}
-use lib.Seq.{length-take-le}
+use lib.ListN.{length}
 use Rattle.std.specs.Prelude.{Option, Some, Ok, Err}
 use Rattle.rules.specs.Lists.{written}
 use Rattle.rules.specs.Scene.{ComponentLists, ConnectionLists, components_of, connections_of, edges_of, scene_of}
@@ -17,8 +16,8 @@ use Rattle.rules.specs.Feedback.{feedback_numbers, check_feedback, feedback_answ
 use Rattle.rules.specs.Refusals.{Checked, scene_limits, after, check_scene, room_outputs}
 use Rattle.rules.specs.declared.answers.Refusal.{Refusal}
 use Rattle.rules.proofs.Acceptance.{AcceptedScene, accepted→}
-use Rattle.scene.specs.Lent.{PositionLists}
-use Rattle.scene.specs.Indexed.{IndexRoom, Tested}
+use Rattle.scene.specs.Placed.{ScenePlaced}
+use Rattle.scene.specs.declared.place.Placed.{Placed}
 use Rattle.reasons.specs.FeedbackListed.{FeedbackIds}
 use Rattle.reasons.specs.Listing.{shared_ids, Linked}
 use Rattle.reasons.proofs.ByIds.{shared-feedback}
@@ -31,11 +30,11 @@ unfolding feedback_reason
 reasons-counted n [] e = rw e refl
 reasons-counted n (x ∷ ids) e = simp (lt-ltb 0 n (omega arith))
 
-module _ (l : ComponentLists) (m : ConnectionLists) (old : List ℕ) (p : PositionLists) where
+module _ (l : ComponentLists) (m : ConnectionLists) (old : List ℕ) where
   abbrev found : Checked
   found = check_scene scene_limits l m (room_outputs (length l.ids) (length m.sources) 4 (length old ∷ []))
 
-  pub call-refused : (r : Refusal) → Tested found l.ids m p (Err r) → FeedbackCall scene_limits l m old old (Err r)
+  pub call-refused : (r : Refusal) → ScenePlaced found l.ids m (Err r) → FeedbackCall scene_limits l m old old (Err r)
   unfolding check_feedback
   call-refused r t = record {
     answered = ap (λ c. feedback_answer c (scene_of l m)) t.checked;
@@ -43,30 +42,19 @@ module _ (l : ComponentLists) (m : ConnectionLists) (old : List ℕ) (p : Positi
     content = ap (λ c. after c old (feedback (components_of l) (edges_of (connections_of m)))) t.checked;
   }
 
-  module _ (room : IndexRoom p) (edges : ℕ) (t : Tested found l.ids m p (Ok edges)) where
+  module _ (p : Placed) (t : ScenePlaced found l.ids m (Ok p)) where
     scene : AcceptedScene scene_limits l m (room_outputs (length l.ids) (length m.sources) 4 (length old ∷ []))
     scene = accepted→ scene_limits l m _ (sym t.checked)
 
-    pub starts_fit : edges ≤ length p.starts
-    starts_fit = omega (arith, t.accepted.edges_few, scene.connections_few, room.starts_room)
-
-    pub stops_fit : edges ≤ length p.stops
-    stops_fit = omega (arith, t.accepted.edges_few, scene.connections_few, room.stops_room)
-
     abbrev starts : List ℕ
-    starts = take edges p.starts
+    starts = p.edges.sources.now
 
     abbrev stops : List ℕ
-    stops = take edges p.stops
+    stops = p.edges.sinks.now
 
     -- the edges of an accepted scene over positions
     linked : Linked starts stops (length l.ids)
-    linked = record {
-      pairs = length-take-le edges p.stops stops_fit ∙ sym (length-take-le edges p.starts starts_fit);
-      nodes_few = scene.components_few;
-      edges_few = omega (arith, t.accepted.edges_few, scene.connections_few, length-take-le edges p.starts starts_fit);
-      inside = t.accepted.positioned.inside;
-    }
+    linked = record { pairs = t.accepted.pairs; nodes_few = scene.components_few; edges_few = omega (arith, t.accepted.edges_few, scene.connections_few); inside = t.accepted.positioned.inside }
 
     module _ (new : List ℕ) (r : Option ℕ) (f : FeedbackIds l.ids l.kinds starts stops old new r) where
       listed : (new ≡ written old (shared_ids l.ids l.kinds starts stops)) × (r ≡ Some (length (shared_ids l.ids l.kinds starts stops)))

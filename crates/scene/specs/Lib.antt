@@ -7,4 +7,5 @@ pub mod Ends
 pub mod Buckets
 -- a scene that is accepted:
 pub mod Indexed
+pub mod Placed
 pub mod ScenePositions

@@ -7,6 +7,7 @@ use Rattle.rules.specs.Refusals.{Checked, Output, SceneLimits, after, answer_of,
 use Rattle.rules.specs.declared.answers.Refusal.{Refusal}
 use Rattle.scene.specs.declared.positions.Unplaced.{Unplaced}
 use Rattle.scene.specs.declared.positions.Unplaced.TheVariants.{NoRoom, Refused}
+use Rattle.scene.specs.declared.place.Placed.{Placed}
 use Rattle.scene.specs.Lent.{PositionLists}
 use Rattle.scene.specs.Indexed.{PositionsOf}
 
@@ -17,11 +18,11 @@ positions_fit limits order starts stops = leb limits.components order && (leb li
 abbrev pub lists_fit : SceneLimits → PositionLists → Bool
 lists_fit limits p = positions_fit limits (length p.order) (length p.starts) (length p.stops)
 
--- lists that have the positions of n components and of the ends of so many edges
-pub record FrontsFit (n edges : ℕ) (p : PositionLists) : Type 0 where
-  pub order_fits : n ≤ length p.order
-  pub starts_fit : edges ≤ length p.starts
-  pub stops_fit : edges ≤ length p.stops
+-- lists that a scene's positions fit
+pub record FrontsFit (placed : Placed) (p : PositionLists) : Type 0 where
+  pub order_fits : length placed.order.now ≤ length p.order
+  pub starts_fit : length placed.edges.sources.now ≤ length p.starts
+  pub stops_fit : length placed.edges.sinks.now ≤ length p.stops
 
 -- the position of an id; 0 where there is none, which no end of an accepted scene's edges has: refusal 6
 abbrev pub end_position : List ℕ → ℕ → ℕ

@@ -6,15 +6,17 @@ ghost use Rattle.graph.specs.Adjacency.{Indexed};
 ghost use Rattle.scene.specs.Buckets.{Ahead, bucket_count, bucket_of, BucketRoom, IdIndex};
 
 use graph::adjacency::index_edges;
+use graph::chain::Chain;
 use order::search::find_position;
 use rules::limits::MAX_COMPONENTS;
 
 // A prime near twice the most components that a scene may have.
 pub(crate) const BUCKETS: usize = 1021;
 
-// How many ids of a bucket are compared before the ordered ids are searched.
-const PROBES: usize = 9;
+// How many ids of a bucket are compared after its first, before the ordered ids are searched.
+const PROBES: usize = 8;
 
+// links has a remainder of its own, by another prime.
 fn bucket_of(id: u64) -> usize
     ensures { result ≡ bucket_of id }
 {
@@ -26,6 +28,7 @@ fn fill_buckets(ids: &[u64], buckets: &mut [usize])
     requires { length buckets.old ≡ length ids.now }
     ensures { buckets.new ≡ map bucket_of ids.now }
 {
+    // by index: of entries that `buckets.iter_mut().zip(ids)` lends, a proof knows nothing once the loop is over
     for (i, &id) in ids.iter().enumerate() {
         buckets[i] = bucket_of(id);
     }
@@ -58,26 +61,30 @@ impl IndexedIds<'_> {
         ensures { result ≡ position_of self.now.ids.now id }
     {
         let first = self.head[bucket_of(id)];
-        if first < self.next.len() && self.ids[first] == id {
+        if self.next.len() <= first {
+            return None;
+        }
+        if self.ids[first] == id {
             return Some(first);
         }
-        self.find_chained(id, first)
+        self.find_chained(id, self.next[first])
     }
 
-    // The same, where no position before first in the id's bucket has it.
-    fn find_chained(&self, id: u64, first: usize) -> Option<usize>
-        requires { Ahead self.now.ids.now self.now.next.now id first }
+    // The same, where no position before from in the id's bucket has it.
+    fn find_chained(&self, id: u64, from: usize) -> Option<usize>
+        requires { Ahead self.now.ids.now self.now.next.now id from }
         ensures { result ≡ position_of self.now.ids.now id }
     {
-        let mut position = first;
-        for _ in 0..PROBES {
-            if self.next.len() <= position {
-                return None;
-            }
+        // where the chain ends first, no position has the id: the search then only says so again, and no more than once, since
+        // the scene is refused
+        let chain = Chain {
+            next: self.next,
+            at: from,
+        };
+        for position in chain.take(PROBES) {
             if self.ids[position] == id {
                 return Some(position);
             }
-            position = self.next[position];
         }
         find_position(self.ids, self.order, id)
     }

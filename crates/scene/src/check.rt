@@ -3,11 +3,9 @@ ghost use Rattle.rules.specs.Lent.{components_lent, connections_lent};
 ghost use Rattle.rules.specs.Refusals.{scene_limits, check_scene, CheckCall};
 ghost use Rattle.scene.specs.Lent.{outputs_lent};
 
-use crate::index::index_scene;
-use crate::lent::Positions;
+use crate::place::SceneRoom;
 use rules::answers::Refusal;
 use rules::lent::Scene;
-use rules::limits::{MAX_COMPONENTS, MAX_CONNECTIONS};
 
 // The first refusal of the scene, or that there is none. room has, for each output list that is to be written, from
 // the list of number first on, the length of its shortest number list; where it is empty no list is tested. A number
@@ -15,14 +13,7 @@ use rules::limits::{MAX_COMPONENTS, MAX_CONNECTIONS};
 pub fn check_scene(scene: &Scene<'_>, first: usize, room: &[usize]) -> Result<(), Refusal>
     ensures { CheckCall (check_scene scene_limits (components_lent scene.now.components) (connections_lent scene.now.connections) (outputs_lent scene.now first room.now)) result }
 {
-    let mut order = [0usize; MAX_COMPONENTS];
-    let mut starts = [0usize; MAX_CONNECTIONS];
-    let mut stops = [0usize; MAX_CONNECTIONS];
-    let mut positions = Positions {
-        order: &mut order,
-        starts: &mut starts,
-        stops: &mut stops,
-    };
-    index_scene(scene, first, room, &mut positions)?;
+    let mut own = SceneRoom::new();
+    own.place(scene, first, room)?;
     Ok(())
 }

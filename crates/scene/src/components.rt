@@ -8,6 +8,7 @@ ghost use Rattle.scene.specs.Steps.{FirstRepeat, Rows};
 use rules::answers::{Refusal, RefusalKind};
 use rules::kinds::BlockKind;
 use rules::lent::Components;
+use rules::limits::NO_DELAY;
 
 // The smaller of first and q, where the ids at p and q are equal; first where they are not.
 fn earlier_repeat(ids: &[u64], p: usize, q: usize, first: usize) -> usize
@@ -21,15 +22,15 @@ fn earlier_repeat(ids: &[u64], p: usize, q: usize, first: usize) -> usize
     }
 }
 
-// The least position whose id an earlier one has, or the number of positions, which is above them all: so the least is
-// a min. Equal ids are neighbours in the ordered positions, the later one behind.
+// The least position whose id an earlier one has. No Option: with the number of positions for none, the least is a min, and no
+// component is at that place. Equal ids are neighbours in the ordered positions, the later one behind.
 pub(crate) fn first_repeat(ids: &[u64], order: &[usize]) -> usize
     requires { order.now ≡ ordered ids.now }
     ensures { FirstRepeat ids.now result }
 {
     let mut first = ids.len();
-    for k in 1..order.len() {
-        first = earlier_repeat(ids, order[k - 1], order[k], first);
+    for &[p, q] in order.array_windows::<2>() {
+        first = earlier_repeat(ids, p, q, first);
     }
     first
 }
@@ -38,7 +39,7 @@ pub(crate) fn first_repeat(ids: &[u64], order: &[usize]) -> usize
 fn range_refusal(kind: u8, delay: u16, locked: u8) -> Option<RefusalKind>
     ensures { result ≡ cond (ltb 12 kind || (ltb 256 delay || ltb 1 locked)) (Some RefusalKind.ComponentOutOfRange) None }
 {
-    let out = BlockKind::try_from(kind).is_err() || 256 < delay || 1 < locked;
+    let out = BlockKind::try_from(kind).is_err() || NO_DELAY < delay || 1 < locked;
     out.then_some(RefusalKind::ComponentOutOfRange)
 }
 
@@ -54,12 +55,13 @@ pub(crate) fn check_components(components: &Components<'_>, repeat: usize) -> Re
     requires { Rows (components_lent components.now) × FirstRepeat components.now.ids.now repeat }
     ensures { result ≡ first_refusal (rows (component_tests (components_lent components.now)) (length components.now.ids.now)) }
 {
-    for i in 0..components.ids.len() {
-        let range = range_refusal(
-            components.kinds[i],
-            components.delays[i],
-            components.locked[i],
-        );
+    let rows = components
+        .kinds
+        .iter()
+        .zip(components.delays)
+        .zip(components.locked);
+    for (i, ((&kind, &delay), &locked)) in rows.enumerate() {
+        let range = range_refusal(kind, delay, locked);
         let used = repeat_refusal(i, repeat);
         if let Some(kind) = range.or(used) {
             let place = i as u64;

@@ -43,11 +43,14 @@ fn look_up_rows(
     requires { Joined index.now.ids.now index.now.order.now (connections_lent connections.now) starts.old stops.old }
     ensures { EndsFound index.now.ids.now (connections_lent connections.now) starts.new stops.new result }
 {
+    // counted by hand: supports are passed over, and how many edges are written is the answer
     let mut edges = 0;
-    for j in 0..connections.sources.len() {
-        let source = connections.sources[j];
-        let sink = connections.sinks[j];
-        let transfer = connections.transfers[j];
+    let rows = connections
+        .sources
+        .iter()
+        .zip(connections.sinks)
+        .zip(connections.transfers);
+    for (j, ((&source, &sink), &transfer)) in rows.enumerate() {
         let place = j as u64;
         let ends = look_up(index, source, sink, transfer).map_err(|kind| Refusal { kind, place })?;
         if let Some(Ends { start, stop }) = ends {

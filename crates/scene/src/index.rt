@@ -1,15 +1,13 @@
-// A scene tested whole and indexed: its components by their ids, its edges by the positions of their ends.
+// The rows of a scene tested and indexed: its components by their ids, its edges by the positions of their ends.
 ghost use Rattle.std.specs.Prelude.{◌≡◌, ◌≤◌, length, take};
 ghost use Rattle.rules.specs.Lent.{components_lent, connections_lent};
 ghost use Rattle.rules.specs.Ordered.{ordered};
-ghost use Rattle.rules.specs.Refusals.{check_scene, scene_limits};
-ghost use Rattle.scene.specs.Lent.{SamePositions, outputs_lent, position_lists, positions_lent};
+ghost use Rattle.rules.specs.Refusals.{scene_limits};
+ghost use Rattle.scene.specs.Lent.{position_lists};
 ghost use Rattle.scene.specs.Indexed.{IndexRoom, Sized, Tested, rows_found};
 
 use crate::components::{check_components, first_repeat};
 use crate::connections::look_up_ends;
-use crate::lent::Positions;
-use crate::sizes::check_sizes;
 use order::sort::sort_positions;
 use rules::answers::Refusal;
 use rules::lent::Scene;
@@ -24,10 +22,10 @@ fn order_ids(ids: &[u64], order: &mut [usize])
     sort_positions(ids, order, &mut scratch);
 }
 
-// Tests the components, then the connections, of lists whose lengths are tested. order gets the ordered positions
-// of the ids, starts and stops the positions of the edges' ends: three lists, since the first is read while the others
-// are written.
-fn index_rows(
+// Tests the components, then the connections, of lists whose lengths are tested. Where they are accepted, order has
+// the ordered positions of the ids, and starts and stops have the positions of the edges' ends: three lists, since the
+// first is read while the others are written. Answers how many edges there are.
+pub(crate) fn index_rows(
     scene: &Scene<'_>,
     order: &mut [usize],
     starts: &mut [usize],
@@ -41,21 +39,4 @@ fn index_rows(
     let order = &order[..ids.len()];
     check_components(&scene.components, first_repeat(ids, order))?;
     look_up_ends(ids, order, &scene.connections, starts, stops)
-}
-
-// Tests a scene in document 01's order, with the output lists from the list of number first on, of which room has
-// the shortest lengths. Where it is accepted, order has the ordered positions of the ids, and starts and stops have
-// the positions of the edges' ends; answers how many edges there are.
-pub(crate) fn index_scene(
-    scene: &Scene<'_>,
-    first: usize,
-    room: &[usize],
-    positions: &mut Positions<'_>,
-) -> Result<usize, Refusal>
-    requires { IndexRoom (positions_lent positions.old) }
-    ensures same { SamePositions positions.old positions.new }
-    ensures indexed { Tested (check_scene scene_limits (components_lent scene.now.components) (connections_lent scene.now.connections) (outputs_lent scene.now first room.now)) scene.now.components.ids.now (connections_lent scene.now.connections) (positions_lent positions.new) result }
-{
-    check_sizes(scene, first, room)?;
-    index_rows(scene, positions.order, positions.starts, positions.stops)
 }

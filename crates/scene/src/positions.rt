@@ -1,15 +1,14 @@
 // The positions of an accepted scene, for the calls that are made over them.
-ghost use Rattle.std.specs.Prelude.{◌≡◌, ◌≤◌, length, take};
+ghost use Rattle.std.specs.Prelude.{◌≡◌};
 ghost use Rattle.rules.specs.Lent.{components_lent, connections_lent};
 ghost use Rattle.rules.specs.Lists.{written};
 ghost use Rattle.rules.specs.Refusals.{scene_limits, check_scene};
 ghost use Rattle.scene.specs.Lent.{SamePositions, outputs_lent, positions_lent};
-ghost use Rattle.scene.specs.Indexed.{IndexRoom};
 ghost use Rattle.scene.specs.declared.positions.Unplaced.TheVariants.{Refused};
-ghost use Rattle.scene.specs.ScenePositions.{FrontsFit, PositionsGiven, ScenePositioned, lists_fit};
+ghost use Rattle.scene.specs.ScenePositions.{FrontsFit, ScenePositioned, lists_fit};
 
-use crate::index::index_scene;
 use crate::lent::Positions;
+use crate::place::{Placed, SceneRoom};
 use rules::answers::Refusal;
 use rules::lent::Scene;
 use rules::limits::{MAX_COMPONENTS, MAX_CONNECTIONS};
@@ -40,50 +39,22 @@ fn positions_fit(positions: &Positions<'_>) -> bool
         && MAX_CONNECTIONS <= positions.stops.len()
 }
 
-// Writes some numbers to the front of a list.
-fn write_front(from: &[usize], to: &mut [usize])
-    requires { length from.now ≤ length to.old }
-    ensures { to.new ≡ written to.old from.now }
-{
-    to[..from.len()].copy_from_slice(from);
-}
-
-// Hands on the positions of n components and of the ends of so many edges.
-fn hand_on(n: usize, edges: usize, own: &Positions<'_>, lent: &mut Positions<'_>)
-    requires { FrontsFit n edges (positions_lent own.now) × FrontsFit n edges (positions_lent lent.old) }
+// Hands on the positions of a scene.
+#[tactic(auto, unfolding(rules::specs::Lists::written_from))]
+fn hand_on(placed: &Placed<'_>, lent: &mut Positions<'_>)
+    requires { FrontsFit placed.now (positions_lent lent.old) }
     ensures same { SamePositions lent.old lent.new }
-    ensures order { lent.new.order.now ≡ written lent.old.order.now (take n own.now.order.now) }
-    ensures starts { lent.new.starts.now ≡ written lent.old.starts.now (take edges own.now.starts.now) }
-    ensures stops { lent.new.stops.now ≡ written lent.old.stops.now (take edges own.now.stops.now) }
+    ensures order { lent.new.order.now ≡ written lent.old.order.now placed.now.order.now }
+    ensures starts { lent.new.starts.now ≡ written lent.old.starts.now placed.now.edges.sources.now }
+    ensures stops { lent.new.stops.now ≡ written lent.old.stops.now placed.now.edges.sinks.now }
 {
-    write_front(&own.order[..n], lent.order);
-    write_front(&own.starts[..edges], lent.starts);
-    write_front(&own.stops[..edges], lent.stops);
-}
-
-// The call below where there is room, with lists of its own to index the scene in: the caller's are written only
-// where the scene is accepted.
-fn index_apart(
-    scene: &Scene<'_>,
-    first: usize,
-    room: &[usize],
-    positions: &mut Positions<'_>,
-) -> Result<usize, Refusal>
-    requires { IndexRoom (positions_lent positions.old) }
-    ensures same { SamePositions positions.old positions.new }
-    ensures given { PositionsGiven (check_scene scene_limits (components_lent scene.now.components) (connections_lent scene.now.connections) (outputs_lent scene.now first room.now)) scene.now.components.ids.now (connections_lent scene.now.connections) (positions_lent positions.old) (positions_lent positions.new) result }
-{
-    let mut order = [0usize; MAX_COMPONENTS];
-    let mut starts = [0usize; MAX_CONNECTIONS];
-    let mut stops = [0usize; MAX_CONNECTIONS];
-    let mut own = Positions {
-        order: &mut order,
-        starts: &mut starts,
-        stops: &mut stops,
-    };
-    let edges = index_scene(scene, first, room, &mut own)?;
-    hand_on(scene.components.ids.len(), edges, &own, positions);
-    Ok(edges)
+    // lent on one by one: of a part of `lent.order` itself, a proof knows the length and not the entries
+    let order = &mut *lent.order;
+    let starts = &mut *lent.starts;
+    let stops = &mut *lent.stops;
+    order[..placed.order.len()].copy_from_slice(placed.order);
+    starts[..placed.edges.sources.len()].copy_from_slice(placed.edges.sources);
+    stops[..placed.edges.sinks.len()].copy_from_slice(placed.edges.sinks);
 }
 
 // Tests a scene in document 01's order, with the output lists from the list of number first on, of which room has
@@ -102,5 +73,9 @@ pub fn scene_positions(
     if !positions_fit(positions) {
         return Err(Unplaced::NoRoom);
     }
-    Ok(index_apart(scene, first, room, positions)?)
+    // placed in a room of its own: the caller's lists are written only where the scene is accepted
+    let mut own = SceneRoom::new();
+    let placed = own.place(scene, first, room)?;
+    hand_on(&placed, positions);
+    Ok(placed.edges.sources.len())
 }

@@ -6,7 +6,7 @@ ghost use Rattle.scene.specs.Lent.{outputs_lent};
 ghost use Rattle.scene.specs.Room.{room_tests};
 
 use lengths::lengths_differ;
-use rules::answers::{Refusal, RefusalKind};
+use rules::answers::{RecordKind, Refusal, RefusalKind};
 use rules::lent::Scene;
 use rules::limits::{MAX_COMPONENTS, MAX_CONNECTIONS};
 
@@ -20,7 +20,8 @@ fn refused(kind: RefusalKind, place: usize) -> Result<(), Refusal>
     Err(Refusal { kind, place })
 }
 
-// The length that an output list needs for n components and m connections, by the list's number in the C interface.
+// The length that an output list needs for n components and m connections. A match on the list's number, not on an
+// enum of lists: a caller, C too, may number lists past the last, which need nothing.
 fn need_of(n: usize, m: usize, list: usize) -> usize
     requires { (n ≤ scene_limits.components) × (m ≤ scene_limits.connections) }
     ensures { result ≡ need_of n m list }
@@ -53,7 +54,8 @@ fn check_room(n: usize, m: usize, first: usize, room: &[usize]) -> Result<(), Re
     Ok(())
 }
 
-// 8, 1, 2 and 7, in this order.
+// 8, 1, 2 and 7, in this order. first and room stand apart, as the public calls take them: a struct of the two would be
+// made in each call and taken apart in check_room.
 pub(crate) fn check_sizes(scene: &Scene<'_>, first: usize, room: &[usize]) -> Result<(), Refusal>
     ensures { result ≡ first_refusal (size_tests scene_limits (components_lent scene.now.components) (connections_lent scene.now.connections) (outputs_lent scene.now first room.now)) }
 {
@@ -69,13 +71,13 @@ pub(crate) fn check_sizes(scene: &Scene<'_>, first: usize, room: &[usize]) -> Re
         components.zs.len(),
     ];
     if lengths_differ(&component_lengths) {
-        return refused(RefusalKind::LengthsDiffer, 0);
+        return refused(RefusalKind::LengthsDiffer, RecordKind::Components as usize);
     }
     let connections = &scene.connections;
     let m = connections.sources.len();
     let connection_lengths = [m, connections.sinks.len(), connections.transfers.len()];
     if lengths_differ(&connection_lengths) {
-        return refused(RefusalKind::LengthsDiffer, 1);
+        return refused(RefusalKind::LengthsDiffer, RecordKind::Connections as usize);
     }
     if MAX_COMPONENTS < n {
         return refused(RefusalKind::TooManyComponents, n);

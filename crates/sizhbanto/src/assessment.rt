@@ -1,5 +1,5 @@
-// The call for C. A list is a pointer and the number of its entries, and an answer is its numbers. No list that is
-// written may overlap another. The call keeps nothing after it returns.
+// The call for C, which hands over its lists one by one: a list is a pointer and the number of its entries, and an answer
+// is its numbers. No list that is written may overlap another. The call keeps nothing after it returns.
 ghost use Rattle.std.specs.Prelude.{Result, ◌≡◌, [], ◌∷◌};
 ghost use Rattle.rules.specs.Scene.{component_lists, connection_lists};
 ghost use Rattle.rules.specs.Refusals.{scene_limits};
@@ -7,15 +7,16 @@ ghost use Rattle.rules.specs.Assess.{assess_lists, scene_numbers, AssessCall};
 ghost use Rattle.rules.specs.declared.answers.Assessment.{Assessment};
 ghost use Rattle.rules.specs.declared.answers.Refusal.{Refusal};
 
+use crate::lent::scene_of;
 use assess::assess::assess_lists;
 use rules::answers::{Assessment, Refusal};
-use rules::lent::{Components, Connections, LabelLists, ProjectionLists, ReasonLists, Scene};
+use rules::lent::{LabelLists, ProjectionLists, ReasonLists};
 
 // The number and place of a refusal, 0 and 0 where the scene is accepted; then scope, pattern and confidence; then how
 // many entries of lists 3 and 4 are used, how many of list 5 are 1 and 0, and how many of lists 6 and 7 are used. Under
-// a refusal these are 0.
+// a refusal these are 0. C has no Result: an answer is its numbers.
 #[repr(C)]
-#[derive(Drop)]
+#[derive(Drop, Default)]
 pub struct SceneNumbers {
     pub number: u32,
     pub place: u64,
@@ -51,15 +52,7 @@ impl From<Result<Assessment, Refusal>> for SceneNumbers {
             Err(refusal) => SceneNumbers {
                 number: refusal.kind.into(),
                 place: refusal.place,
-                scope: 0,
-                pattern: 0,
-                confidence: 0,
-                reasons: 0,
-                feedback: 0,
-                retained: 0,
-                compressed: 0,
-                projected: 0,
-                path_ids: 0,
+                ..SceneNumbers::default()
             },
         }
     }
@@ -99,22 +92,9 @@ pub extern "C" fn sizhbanto_assess_scene(
 ) -> SceneNumbers
     ensures { (answer : Result Assessment Refusal) × AssessCall scene_limits (component_lists ids.now kinds.now delays.now locked.now xs.now ys.now zs.now) (connection_lists sources.now sinks.now transfers.now) (assess_lists reason_kinds.old reason_components.old reason_blocks.old reason_minimums.old reason_maximums.old feedback_ids.old marks.old projected_sources.old projected_sinks.old projected_inverted.old projected_minimums.old projected_maximums.old projected_starts.old projected_lengths.old path_ids.old label_settled.old label_lows.old label_highs.old) (assess_lists reason_kinds.new reason_components.new reason_blocks.new reason_minimums.new reason_maximums.new feedback_ids.new marks.new projected_sources.new projected_sinks.new projected_inverted.new projected_minimums.new projected_maximums.new projected_starts.new projected_lengths.new path_ids.new label_settled.new label_lows.new label_highs.new) answer × (result.number ∷ result.place ∷ result.scope ∷ result.pattern ∷ result.confidence ∷ result.reasons ∷ result.feedback ∷ result.retained ∷ result.compressed ∷ result.projected ∷ result.path_ids ∷ [] ≡ scene_numbers answer) }
 {
-    let scene = Scene {
-        components: Components {
-            ids,
-            kinds,
-            delays,
-            locked,
-            xs,
-            ys,
-            zs,
-        },
-        connections: Connections {
-            sources,
-            sinks,
-            transfers,
-        },
-    };
+    let scene = scene_of(
+        ids, kinds, delays, locked, xs, ys, zs, sources, sinks, transfers,
+    );
     let mut reasons = ReasonLists {
         kinds: reason_kinds,
         components: reason_components,

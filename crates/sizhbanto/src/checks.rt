@@ -1,5 +1,5 @@
-// The calls for C. A list is a pointer and the number of its entries, and an answer is its numbers. No list that is
-// written may overlap another. A call keeps nothing after it returns.
+// The calls for C, which hands over its lists one by one: a list is a pointer and the number of its entries, and an answer
+// is its numbers. No list that is written may overlap another. A call keeps nothing after it returns.
 ghost use Rattle.std.specs.Prelude.{Result, ◌≡◌, [], ◌∷◌, length};
 ghost use Rattle.rules.specs.Feedback.{FeedbackCall, feedback_numbers};
 ghost use Rattle.rules.specs.Scene.{component_lists, connection_lists};
@@ -7,14 +7,14 @@ ghost use Rattle.rules.specs.Refusals.{scene_limits, check_scene, refusal_number
 ghost use Rattle.rules.specs.declared.answers.FeedbackListed.{FeedbackListed};
 ghost use Rattle.rules.specs.declared.answers.Refusal.{Refusal};
 
+use crate::lent::scene_of;
 use rules::answers::{FeedbackListed, Refusal};
-use rules::lent::{Components, Connections, Scene};
 use scene::check::check_scene;
 use scene::feedback::feedback_scene;
 
-// The number and place of a refusal; 0 and 0 where the scene is accepted.
+// The number and place of a refusal; 0 and 0 where the scene is accepted. C has no Result: an answer is its numbers.
 #[repr(C)]
-#[derive(Drop)]
+#[derive(Drop, Default)]
 pub struct CheckedNumbers {
     pub number: u32,
     pub place: u64,
@@ -25,10 +25,7 @@ impl From<Result<(), Refusal>> for CheckedNumbers {
 
     fn from(checked: Result<(), Refusal>) -> CheckedNumbers {
         match checked {
-            Ok(()) => CheckedNumbers {
-                number: 0,
-                place: 0,
-            },
+            Ok(()) => CheckedNumbers::default(),
             Err(refusal) => CheckedNumbers {
                 number: refusal.kind.into(),
                 place: refusal.place,
@@ -56,29 +53,16 @@ pub extern "C" fn sizhbanto_check_scene(
     ensures number { result.number ≡ refusal_number (check_scene scene_limits (component_lists ids.now kinds.now delays.now locked.now xs.now ys.now zs.now) (connection_lists sources.now sinks.now transfers.now) (room_outputs (length ids.now) (length sources.now) first room.now)) }
     ensures place { result.place ≡ refusal_place (check_scene scene_limits (component_lists ids.now kinds.now delays.now locked.now xs.now ys.now zs.now) (connection_lists sources.now sinks.now transfers.now) (room_outputs (length ids.now) (length sources.now) first room.now)) }
 {
-    let scene = Scene {
-        components: Components {
-            ids,
-            kinds,
-            delays,
-            locked,
-            xs,
-            ys,
-            zs,
-        },
-        connections: Connections {
-            sources,
-            sinks,
-            transfers,
-        },
-    };
+    let scene = scene_of(
+        ids, kinds, delays, locked, xs, ys, zs, sources, sinks, transfers,
+    );
     CheckedNumbers::from(check_scene(&scene, first, room))
 }
 
 // The number and place of a refusal, 0 and 0 where the scene is accepted; then how many ids are listed and how many
-// Feedback reasons there are, 0 and 0 under a refusal.
+// Feedback reasons there are, 0 and 0 under a refusal. C has no Result: an answer is its numbers.
 #[repr(C)]
-#[derive(Drop)]
+#[derive(Drop, Default)]
 pub struct FeedbackNumbers {
     pub number: u32,
     pub place: u64,
@@ -100,8 +84,7 @@ impl From<Result<FeedbackListed, Refusal>> for FeedbackNumbers {
             Err(refusal) => FeedbackNumbers {
                 number: refusal.kind.into(),
                 place: refusal.place,
-                feedback: 0,
-                reasons: 0,
+                ..FeedbackNumbers::default()
             },
         }
     }
@@ -124,21 +107,8 @@ pub extern "C" fn sizhbanto_feedback_scene(
 ) -> FeedbackNumbers
     ensures { (answer : Result FeedbackListed Refusal) × FeedbackCall scene_limits (component_lists ids.now kinds.now delays.now locked.now xs.now ys.now zs.now) (connection_lists sources.now sinks.now transfers.now) feedback_ids.old feedback_ids.new answer × (result.number ∷ result.place ∷ result.feedback ∷ result.reasons ∷ [] ≡ feedback_numbers answer) }
 {
-    let scene = Scene {
-        components: Components {
-            ids,
-            kinds,
-            delays,
-            locked,
-            xs,
-            ys,
-            zs,
-        },
-        connections: Connections {
-            sources,
-            sinks,
-            transfers,
-        },
-    };
+    let scene = scene_of(
+        ids, kinds, delays, locked, xs, ys, zs, sources, sinks, transfers,
+    );
     FeedbackNumbers::from(feedback_scene(&scene, feedback_ids))
 }

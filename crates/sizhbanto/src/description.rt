@@ -1,5 +1,5 @@
-// The call for C. A list is a pointer and the number of its entries, and an answer is its numbers. No list that is
-// written may overlap another. The call keeps nothing after it returns.
+// The call for C, which hands over its lists one by one: a list is a pointer and the number of its entries, and an answer
+// is its numbers. No list that is written may overlap another. The call keeps nothing after it returns.
 ghost use Rattle.std.specs.Prelude.{Result, ◌≡◌, [], ◌∷◌};
 ghost use Rattle.rules.specs.Scene.{component_lists, connection_lists};
 ghost use Rattle.rules.specs.Refusals.{scene_limits};
@@ -7,14 +7,15 @@ ghost use Rattle.rules.specs.Describe.{describe_lists, description_numbers, Desc
 ghost use Rattle.rules.specs.declared.answers.Description.{Description};
 ghost use Rattle.rules.specs.declared.answers.Refusal.{Refusal};
 
+use crate::lent::scene_of;
 use describe::describe::describe_lists;
 use rules::answers::{Description, Refusal};
-use rules::lent::{Components, Connections, DeviceLists, EvidenceLists, Scene, TimedEdgeLists};
+use rules::lent::{DeviceLists, EvidenceLists, TimedEdgeLists};
 
 // The number and place of a refusal, 0 and 0 where the scene is accepted; then how many entries of lists 0, 1 and 2
-// are used, 0 under a refusal.
+// are used, 0 under a refusal. C has no Result: an answer is its numbers.
 #[repr(C)]
-#[derive(Drop)]
+#[derive(Drop, Default)]
 pub struct DescriptionNumbers {
     pub number: u32,
     pub place: u64,
@@ -38,9 +39,7 @@ impl From<Result<Description, Refusal>> for DescriptionNumbers {
             Err(refusal) => DescriptionNumbers {
                 number: refusal.kind.into(),
                 place: refusal.place,
-                timed_edges: 0,
-                devices: 0,
-                evidence: 0,
+                ..DescriptionNumbers::default()
             },
         }
     }
@@ -78,22 +77,9 @@ pub extern "C" fn sizhbanto_describe_scene(
 ) -> DescriptionNumbers
     ensures { (answer : Result Description Refusal) × DescribeCall scene_limits (component_lists ids.now kinds.now delays.now locked.now xs.now ys.now zs.now) (connection_lists sources.now sinks.now transfers.now) (describe_lists edge_sources.old edge_sinks.old edge_minimums.old edge_maximums.old edge_behaviors.old device_components.old device_xs.old device_ys.old device_zs.old device_semantics.old device_delays.old evidence_kinds.old evidence_sources.old evidence_sinks.old evidence_components.old evidence_blocks.old) (describe_lists edge_sources.new edge_sinks.new edge_minimums.new edge_maximums.new edge_behaviors.new device_components.new device_xs.new device_ys.new device_zs.new device_semantics.new device_delays.new evidence_kinds.new evidence_sources.new evidence_sinks.new evidence_components.new evidence_blocks.new) answer × (result.number ∷ result.place ∷ result.timed_edges ∷ result.devices ∷ result.evidence ∷ [] ≡ description_numbers answer) }
 {
-    let scene = Scene {
-        components: Components {
-            ids,
-            kinds,
-            delays,
-            locked,
-            xs,
-            ys,
-            zs,
-        },
-        connections: Connections {
-            sources,
-            sinks,
-            transfers,
-        },
-    };
+    let scene = scene_of(
+        ids, kinds, delays, locked, xs, ys, zs, sources, sinks, transfers,
+    );
     let mut edges = TimedEdgeLists {
         sources: edge_sources,
         sinks: edge_sinks,

@@ -1,4 +1,5 @@
-// The call for C that marks strongly connected components. A list is a pointer and the number of its entries.
+// The call for C that marks strongly connected components. C hands over its lists one by one: a list is a pointer and the
+// number of its entries.
 ghost use Rattle.graph.specs.Fits.{SharedMarked};
 
 use graph::edges::{Edges, GroupRoom};

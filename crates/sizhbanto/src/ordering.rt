@@ -1,5 +1,5 @@
-// The calls for C that order keys and search in the order. A list is a pointer and the number of its entries, and an
-// answer is its numbers.
+// The calls for C that order keys and search in the order. C hands over its lists one by one: a list is a pointer and the
+// number of its entries, and an answer is its numbers.
 ghost use Rattle.std.specs.Prelude.{Option, ℕ, ◌≡◌};
 ghost use Rattle.order.specs.Sorted.{SortedPositions};
 ghost use Rattle.order.specs.Searched.{Searched, is_found, found_position};
@@ -19,7 +19,7 @@ pub extern "C" fn sizhbanto_sort_positions(
     sort_positions(keys, order, scratch)
 }
 
-// Whether the key was found, and its position; 0 where it was not.
+// Whether the key was found, and its position; 0 where it was not. C has no Option: an answer is its numbers.
 #[repr(C)]
 #[derive(Drop)]
 pub struct FoundNumbers {

@@ -1,4 +1,5 @@
-// The call for C that finds a projected edge's path. A list is a pointer and the number of its entries.
+// The call for C that finds a projected edge's path. C hands over its lists one by one: a list is a pointer and the number
+// of its entries.
 ghost use Rattle.std.specs.Prelude.{◌≡◌, length, take, drop};
 ghost use Rattle.rules.specs.Projection.{projected_path};
 ghost use Rattle.projection.specs.PathPart.{path_part};

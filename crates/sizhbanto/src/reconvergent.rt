@@ -1,4 +1,4 @@
-// The call for C that sums paths. A list is a pointer and the number of its entries.
+// The call for C that sums paths. C hands over its lists one by one: a list is a pointer and the number of its entries.
 ghost use Rattle.std.specs.Prelude.{Option, ℕ, ◌≡◌, is_some, unwrap_or};
 ghost use Rattle.reconvergence.specs.Fits.{ReconvergentDelays};
 
@@ -6,7 +6,8 @@ use graph::edges::Edges;
 use reconvergence::lent::{Delays, PathSums, SumRoom};
 use reconvergence::reconvergent_delay_reasons;
 
-// Whether the lists fit, and how many nodes are listed.
+// Whether the lists fit, and how many nodes are listed; 0 where they do not. C has no Option: an answer is its numbers.
+// FoundNumbers is alike, but C reads the fields by their names.
 #[repr(C)]
 #[derive(Drop)]
 pub struct Reconverged {
@@ -45,46 +46,6 @@ pub extern "C" fn sizhbanto_reconvergent_delay_reasons(
 ) -> Reconverged
     ensures { (answer : Option ℕ) × ReconvergentDelays sources.now sinks.now low.now high.now order.now settled.old smallest.old largest.old unequal.old head.old next.old incoming.old left.old queue.old settled.new smallest.new largest.new unequal.new head.new next.new incoming.new left.new queue.new answer × (result.fits ≡ is_some answer) × (result.unequal ≡ unwrap_or answer 0) }
 {
-    // the ends of longer lists would be cleared for nothing
-    let heads = low.len().min(head.len());
-    let counts = low.len().min(incoming.len());
-    Reconverged::from(delays_within(
-        sources,
-        sinks,
-        low,
-        high,
-        order,
-        settled,
-        smallest,
-        largest,
-        unequal,
-        &mut head[..heads],
-        next,
-        &mut incoming[..counts],
-        left,
-        queue,
-    ))
-}
-
-// reconvergent_delay_reasons over its lists one by one: what a struct of cut lists holds afterwards isn't known.
-fn delays_within(
-    sources: &[usize],
-    sinks: &[usize],
-    low: &[u32],
-    high: &[u32],
-    order: &[usize],
-    settled: &mut [u8],
-    smallest: &mut [u32],
-    largest: &mut [u32],
-    unequal: &mut [usize],
-    head: &mut [usize],
-    next: &mut [usize],
-    incoming: &mut [usize],
-    left: &mut [usize],
-    queue: &mut [usize],
-) -> Option<usize>
-    ensures { ReconvergentDelays sources.now sinks.now low.now high.now order.now settled.old smallest.old largest.old unequal.old head.old next.old incoming.old left.old queue.old settled.new smallest.new largest.new unequal.new head.new next.new incoming.new left.new queue.new result }
-{
     let edges = Edges { sources, sinks };
     let delays = Delays { low, high };
     let mut sums = PathSums {
@@ -99,5 +60,7 @@ fn delays_within(
         left,
         queue,
     };
-    reconvergent_delay_reasons(&edges, &delays, order, &mut sums, unequal, &mut room)
+    Reconverged::from(reconvergent_delay_reasons(
+        &edges, &delays, order, &mut sums, unequal, &mut room,
+    ))
 }

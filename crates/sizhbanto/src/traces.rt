@@ -1,6 +1,7 @@
-// The trace call and recording for C. A list is a pointer and the number of its entries, and an answer is its numbers. No
-// list that is written may overlap another. A call keeps nothing after it returns.
+// The trace call and recording for C, which hands over its lists one by one: a list is a pointer and the number of its
+// entries, and an answer is its numbers. No list that is written may overlap another. A call keeps nothing after it returns.
 ghost use Rattle.std.specs.Prelude.{Result, ◌≡◌, [], ◌∷◌};
+ghost use Rattle.rules.specs.Lent.{trace_lent};
 ghost use Rattle.rules.specs.Pulses.{event_lists};
 ghost use Rattle.rules.specs.Verdicts.{contract_lists, finding_lists};
 ghost use Rattle.rules.specs.Traces.{trace_limits, trace_lists, transient_numbers, transient_tallies, TraceCall};
@@ -17,9 +18,10 @@ use rules::transient::TransientAssessment;
 use transient::trace::assess_transients;
 
 // The number and place of a refusal, 0 and 0 where the trace is accepted; then how many findings were written and how many
-// contracts were given; then the tally of each verdict by its number. Under a refusal these are 0.
+// contracts were given; then the tally of each verdict by its number. Under a refusal these are 0. C has no Result: an
+// answer is its numbers.
 #[repr(C)]
-#[derive(Drop)]
+#[derive(Drop, Default)]
 pub struct AssessedTrace {
     pub number: u32,
     pub place: u64,
@@ -34,6 +36,7 @@ impl From<Result<TransientAssessment, Refusal>> for AssessedTrace {
     fn from(answer: Result<TransientAssessment, Refusal>) -> AssessedTrace {
         match answer {
             Ok(assessment) => {
+                // A variable: the borrow check doesn't cover an array that goes from one struct straight into another.
                 let tallies = assessment.tallies;
                 AssessedTrace {
                     number: 0,
@@ -46,11 +49,44 @@ impl From<Result<TransientAssessment, Refusal>> for AssessedTrace {
             Err(refusal) => AssessedTrace {
                 number: refusal.kind.into(),
                 place: refusal.place,
-                findings: 0,
-                contracts_applied: 0,
-                tallies: [0; 5],
+                ..AssessedTrace::default()
             },
         }
+    }
+}
+
+// The lists of a trace, in the order in which both calls have them.
+fn trace_of<'a>(
+    unit: u8,
+    ticks: &'a [u64],
+    components: &'a [u64],
+    powered: &'a [u8],
+    contract_components: &'a [u64],
+    contract_intents: &'a [u8],
+    contract_powered: &'a [u8],
+    contract_polarities: &'a [u8],
+    contract_units: &'a [u8],
+    contract_smallest: &'a [u64],
+    contract_largest: &'a [u64],
+) -> Trace<'a>
+    ensures { trace_lent result ≡ trace_lists unit (event_lists ticks.now components.now powered.now) (contract_lists contract_components.now contract_intents.now contract_powered.now contract_polarities.now contract_units.now contract_smallest.now contract_largest.now) }
+{
+    Trace {
+        unit,
+        events: Events {
+            ticks,
+            components,
+            powered,
+        },
+        contracts: Contracts {
+            components: contract_components,
+            intents: contract_intents,
+            powered: contract_powered,
+            polarities: contract_polarities,
+            units: contract_units,
+            smallest: contract_smallest,
+            largest: contract_largest,
+        },
     }
 }
 
@@ -83,23 +119,21 @@ pub extern "C" fn sizhbanto_assess_transients(
 ) -> AssessedTrace
     ensures { (answer : Result TransientAssessment Refusal) × TraceCall trace_limits (trace_lists unit (event_lists ticks.now components.now powered.now) (contract_lists contract_components.now contract_intents.now contract_powered.now contract_polarities.now contract_units.now contract_smallest.now contract_largest.now)) (finding_lists finding_components.old finding_polarities.old finding_units.old finding_start_ticks.old finding_end_ticks.old finding_widths.old finding_steady.old finding_baselines.old finding_starts.old finding_ends.old finding_verdicts.old finding_rationales.old) (finding_lists finding_components.new finding_polarities.new finding_units.new finding_start_ticks.new finding_end_ticks.new finding_widths.new finding_steady.new finding_baselines.new finding_starts.new finding_ends.new finding_verdicts.new finding_rationales.new) answer × (result.number ∷ result.place ∷ result.findings ∷ result.contracts_applied ∷ [] ≡ transient_numbers answer) × (result.tallies ≡ transient_tallies answer) }
 {
-    let trace = Trace {
+    let trace = trace_of(
         unit,
-        events: Events {
-            ticks,
-            components,
-            powered,
-        },
-        contracts: Contracts {
-            components: contract_components,
-            intents: contract_intents,
-            powered: contract_powered,
-            polarities: contract_polarities,
-            units: contract_units,
-            smallest: contract_smallest,
-            largest: contract_largest,
-        },
-    };
+        ticks,
+        components,
+        powered,
+        contract_components,
+        contract_intents,
+        contract_powered,
+        contract_polarities,
+        contract_units,
+        contract_smallest,
+        contract_largest,
+    );
+    // The lists of findings stand in both calls: a function that answers lists to be written would have to promise that
+    // each comes back to the caller's.
     let mut findings = Findings {
         components: finding_components,
         polarities: finding_polarities,
@@ -117,9 +151,9 @@ pub extern "C" fn sizhbanto_assess_transients(
     AssessedTrace::from(assess_transients(&trace, &mut findings))
 }
 
-// The same numbers without the tallies, and the record after the call.
+// The same numbers without the tallies, and the record after the call. C has no Result: an answer is its numbers.
 #[repr(C)]
-#[derive(Drop)]
+#[derive(Drop, Default)]
 pub struct RecordedTrace {
     pub number: u32,
     pub place: u64,
@@ -143,9 +177,8 @@ impl From<Recorded> for RecordedTrace {
             Err(refusal) => RecordedTrace {
                 number: refusal.kind.into(),
                 place: refusal.place,
-                findings: 0,
-                contracts_applied: 0,
                 held: recorded.held,
+                ..RecordedTrace::default()
             },
         }
     }
@@ -181,23 +214,19 @@ pub extern "C" fn sizhbanto_record_trace(
 ) -> RecordedTrace
     ensures { RecordCall trace_limits (record_of held) (trace_lists unit (event_lists ticks.now components.now powered.now) (contract_lists contract_components.now contract_intents.now contract_powered.now contract_polarities.now contract_units.now contract_smallest.now contract_largest.now)) (finding_lists finding_components.old finding_polarities.old finding_units.old finding_start_ticks.old finding_end_ticks.old finding_widths.old finding_steady.old finding_baselines.old finding_starts.old finding_ends.old finding_verdicts.old finding_rationales.old) (finding_lists finding_components.new finding_polarities.new finding_units.new finding_start_ticks.new finding_end_ticks.new finding_widths.new finding_steady.new finding_baselines.new finding_starts.new finding_ends.new finding_verdicts.new finding_rationales.new) (result.number ∷ result.place ∷ result.findings ∷ result.contracts_applied ∷ []) (record_of result.held) }
 {
-    let trace = Trace {
+    let trace = trace_of(
         unit,
-        events: Events {
-            ticks,
-            components,
-            powered,
-        },
-        contracts: Contracts {
-            components: contract_components,
-            intents: contract_intents,
-            powered: contract_powered,
-            polarities: contract_polarities,
-            units: contract_units,
-            smallest: contract_smallest,
-            largest: contract_largest,
-        },
-    };
+        ticks,
+        components,
+        powered,
+        contract_components,
+        contract_intents,
+        contract_powered,
+        contract_polarities,
+        contract_units,
+        contract_smallest,
+        contract_largest,
+    );
     let mut findings = Findings {
         components: finding_components,
         polarities: finding_polarities,

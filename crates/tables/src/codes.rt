@@ -1,4 +1,5 @@
-// Polarities and units by their numbers, for any number: refusal 11 keeps others than 0 and 1 out wherever they are read.
+// Polarities and units by their numbers, for any number: refusal 11 keeps others than 0 and 1 out wherever they are read. One
+// generic function for both would need a trait that names each type's default, which is longer than the two calls.
 ghost use Rattle.std.specs.Prelude.{◌≡◌};
 ghost use Rattle.rules.specs.Codes.{polarity_of, unit_of};
 

@@ -1,4 +1,5 @@
-// The kind table: what each block kind is in the timing analysis.
+// The kind table: what each block kind is in the timing analysis. Codes and delay words stay numbers: they are entries of lists
+// that the C interface lends.
 ghost use Rattle.std.specs.Prelude.{◌≡◌};
 ghost use Rattle.rules.specs.Kinds.{kind_row, delay_by, component_delay, edge_timing, is_device};
 ghost use Rattle.rules.specs.Describe.{meaning_code};
@@ -68,22 +69,22 @@ const KINDS: [KindRow; 13] = [
 pub fn kind_row(code: u8) -> KindRow
     ensures { result ≡ kind_row code }
 {
-    let i = code as usize;
-    if i < 13 { KINDS[i] } else { CONDUCTOR }
+    KINDS.get(usize::from(code)).copied().unwrap_or(CONDUCTOR)
 }
 
-// The delay by what a row says and a delay word.
+// The delay by what a row says and a delay word. A word past the largest delay is that of an absent one.
+#[tactic(auto, unfolding(rules::specs::Kinds::delay_by))]
 pub fn delay_by(delay: KindDelay, word: u16) -> u32
     ensures { result ≡ delay_by delay word }
 {
     match delay {
         KindDelay::Fixed(ticks) => u32::from(ticks),
-        KindDelay::Own(_) if word < 256 => u32::from(word),
-        KindDelay::Own(absent) => u32::from(absent),
+        KindDelay::Own(absent) => u32::from(u8::try_from(word).unwrap_or(absent)),
     }
 }
 
 // The delay of a component by its kind code and its delay word.
+#[tactic(auto, unfolding(rules::specs::Kinds::component_delay))]
 pub fn component_delay(code: u8, word: u16) -> u32
     ensures { result ≡ component_delay code word }
 {
@@ -91,6 +92,7 @@ pub fn component_delay(code: u8, word: u16) -> u32
 }
 
 // What an edge takes from its source.
+#[tactic(auto, unfolding(rules::specs::Kinds::component_delay))]
 pub fn edge_timing(code: u8, word: u16) -> EdgeTiming
     ensures { result ≡ edge_timing code word }
 {
@@ -111,13 +113,14 @@ const FIRST_DEVICE: u8 = BlockKind::RedstoneTorch as u8;
 const LAST_DEVICE: u8 = BlockKind::Piston as u8;
 
 // Whether a kind is a device. The code tells it without the row, which takes longer.
+#[tactic(auto, using(crate::proofs::Table::device_range))]
 pub fn is_device(code: u8) -> bool
     ensures { result ≡ is_device (kind_row code) }
 {
-    FIRST_DEVICE <= code && code <= LAST_DEVICE
+    (FIRST_DEVICE..=LAST_DEVICE).contains(&code)
 }
 
-// The number of what a kind means as a device; 0 where it is none.
+// The number of what a kind means as a device; 0 where it is none. List 1 of the C interface has numbers, so no Option.
 pub fn meaning_code(code: u8) -> u8
     ensures { result ≡ meaning_code (kind_row code).meaning }
 {

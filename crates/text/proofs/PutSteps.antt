@@ -1,5 +1,7 @@
 -- A text put behind another, and rows put one after the other. Assumes nothing.
-use Rattle.std.proofs.Common.{◌≡◌, ℕ, zero, suc, ◌+◌, ◌*◌, ◌-◌, ◌/◌, ◌%◌, ◌≤◌, ◌<◌, List, [], ◌∷◌, ◌++◌, length, get_or, take, drop, set, refl, sym, ap, ◌∙◌, arith, append-nil}
+use Rattle.std.proofs.Common.{◌≡◌, ℕ, zero, suc, ◌+◌, ◌*◌, ◌-◌, ◌^◌, ◌/◌, ◌%◌, ◌≤◌, ◌<◌, List, [], ◌∷◌, ◌++◌, length, get_or, take, drop, set, refl, sym, ap, ◌∙◌, arith, append-nil}
+use Rattle.std.specs.Fmt.{decimal as printed}
+use Rattle.std.proofs.lemmas.Fmt.{decimal_by_steps}
 use Rattle.std.proofs.lemmas.List.{length-append, append_assoc, drop-drop}
 use mathlib.Core.List.{flat_map}
 use mathlib.Core.Path.{ap₂}
@@ -11,7 +13,7 @@ use Rattle.rules.proofs.Lists.{flat_append, flat-more}
 use Rattle.rules.proofs.Indices.{indices-more, indices-split}
 use Rattle.rules.proofs.Written.{from-none, from_more, from-twice, from-length}
 use Rattle.rules.specs.Bytes.{digit, decimal}
-use Rattle.rules.proofs.Decimals.{decimal-many}
+use Rattle.rules.proofs.Decimals.{decimal_digit, decimal-many}
 use Rattle.text.specs.Page.{Room, Put}
 use Rattle.text.specs.declared.page.Page.{Page}
 
@@ -53,10 +55,14 @@ byte_put at old x h =
 -- The digits of a number
 
 -- a number of 10 or more is that of its tens, and a digit
-pub decimal_more : (n : ℕ) → 10 ≤ n → decimal n ≡ decimal (n / 10) ++ (digit (n % 10) ∷ [])
+decimal_more : (n : ℕ) → 10 ≤ n → decimal n ≡ decimal (n / 10) ++ (digit (n % 10) ∷ [])
 decimal_more n h =
     let e : n ≡ 10 * (n / 10) + n % 10 = omega arith in
     ap decimal e ∙ decimal-many (n / 10) (n % 10) (omega arith) (omega arith)
+
+-- the library's digits are these
+pub printed_is : (n : ℕ) → n < 2 ^ 64 → printed n ≡ decimal n
+printed_is = decimal_by_steps (λ n ds. ds ≡ decimal n) (λ n h. sym (decimal_digit n h)) (λ n ds h e. ap (λ l. l ++ (digit (n % 10) ∷ [])) e ∙ sym (decimal_more n h))
 
 -- Rows
 

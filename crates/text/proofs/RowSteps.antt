@@ -20,27 +20,27 @@ front i n l m e h = omega (arith, length-take i l, length-take i m)
 -- The components
 
 pub record ComponentsSized (s : Components.Inside) : Type 0 where
-  pub ids : length s.ids ≡ 2048
-  pub kinds : length s.kinds ≡ 2048
-  pub delays : length s.delays ≡ 2048
-  pub locked : length s.locked ≡ 2048
-  pub xs : length s.xs ≡ 2048
-  pub ys : length s.ys ≡ 2048
-  pub zs : length s.zs ≡ 2048
-  pub len : s.len ≤ 2048
+  pub ids : length s.ids ≡ 1927
+  pub kinds : length s.kinds ≡ 1927
+  pub delays : length s.delays ≡ 1927
+  pub locked : length s.locked ≡ 1927
+  pub xs : length s.xs ≡ 1927
+  pub ys : length s.ys ≡ 1927
+  pub zs : length s.zs ≡ 1927
+  pub len : s.len ≤ 1927
 
-pub components_counted : (s : Components.Inside) → length s.ids ≡ 2048 → s.len ≤ 2048 → length (components_of (component_fronts s)) ≡ s.len
+pub components_counted : (s : Components.Inside) → length s.ids ≡ 1927 → s.len ≤ 1927 → length (components_of (component_fronts s)) ≡ s.len
 components_counted s e h = components_length (component_fronts s) ∙ length-take-le s.len s.ids (omega arith)
 
 module _ (s : Components.Inside) (z : ComponentsSized s) where
   columns : ComponentColumns (component_fronts s)
   columns = component-columns (component_fronts s) (record {
-    kinds_length = front s.len 2048 s.kinds s.ids z.kinds z.ids;
-    delays_length = front s.len 2048 s.delays s.ids z.delays z.ids;
-    locked_length = front s.len 2048 s.locked s.ids z.locked z.ids;
-    xs_length = front s.len 2048 s.xs s.ids z.xs z.ids;
-    ys_length = front s.len 2048 s.ys s.ids z.ys z.ids;
-    zs_length = front s.len 2048 s.zs s.ids z.zs z.ids;
+    kinds_length = front s.len 1927 s.kinds s.ids z.kinds z.ids;
+    delays_length = front s.len 1927 s.delays s.ids z.delays z.ids;
+    locked_length = front s.len 1927 s.locked s.ids z.locked z.ids;
+    xs_length = front s.len 1927 s.xs s.ids z.xs z.ids;
+    ys_length = front s.len 1927 s.ys s.ids z.ys z.ids;
+    zs_length = front s.len 1927 s.zs s.ids z.zs z.ids;
   })
 
   pub components_are : component_fronts s ≡ component_fields (components_of (component_fronts s))
@@ -48,7 +48,7 @@ module _ (s : Components.Inside) (z : ComponentsSized s) where
       let c = columns in
       rw (component-ids (component_fronts s), c.kinds_column, c.delays_column, c.locked_column, c.xs_column, c.ys_column, c.zs_column)
 
-  pub component_more : (r : Component) → s.len < 2048 → (x y z : ℤ) → x ≡ r.x → y ≡ r.y → z ≡ r.z
+  pub component_more : (r : Component) → s.len < 1927 → (x y z : ℤ) → x ≡ r.x → y ≡ r.y → z ≡ r.z
       → components_of (component_lists (take (s.len + 1) (set s.ids s.len r.id)) (take (s.len + 1) (set s.kinds s.len r.kind)) (take (s.len + 1) (set s.delays s.len r.delay)) (take (s.len + 1) (set s.locked s.len r.locked)) (take (s.len + 1) (set s.xs s.len x)) (take (s.len + 1) (set s.ys s.len y)) (take (s.len + 1) (set s.zs s.len z)))
       ≡ components_of (component_fronts s) ++ r ∷ []
   component_more r h x y z' ex ey ez =
@@ -68,25 +68,25 @@ module _ (s : Components.Inside) (z : ComponentsSized s) where
 -- The connections
 
 pub record ConnectionsSized (s : Connections.Inside) : Type 0 where
-  pub sources : length s.sources ≡ 4096
-  pub sinks : length s.sinks ≡ 4096
-  pub transfers : length s.transfers ≡ 4096
-  pub len : s.len ≤ 4096
+  pub sources : length s.sources ≡ 2730
+  pub sinks : length s.sinks ≡ 2730
+  pub transfers : length s.transfers ≡ 2730
+  pub len : s.len ≤ 2730
 
-pub connections_counted : (s : Connections.Inside) → length s.sources ≡ 4096 → s.len ≤ 4096 → length (connections_of (connection_fronts s)) ≡ s.len
+pub connections_counted : (s : Connections.Inside) → length s.sources ≡ 2730 → s.len ≤ 2730 → length (connections_of (connection_fronts s)) ≡ s.len
 connections_counted s e h = connections-length (connection_fronts s) ∙ length-take-le s.len s.sources (omega arith)
 
 module _ (s : Connections.Inside) (z : ConnectionsSized s) where
   connection_columns : ConnectionColumns (connection_fronts s)
   connection_columns = connection-columns (connection_fronts s) (record {
-    sinks_length = front s.len 4096 s.sinks s.sources z.sinks z.sources;
-    transfers_length = front s.len 4096 s.transfers s.sources z.transfers z.sources;
+    sinks_length = front s.len 2730 s.sinks s.sources z.sinks z.sources;
+    transfers_length = front s.len 2730 s.transfers s.sources z.transfers z.sources;
   })
 
   pub connections_are : connection_fronts s ≡ connection_fields (connections_of (connection_fronts s))
   connections_are = let c = connection_columns in rw (connection-sources (connection_fronts s), c.sinks_column, c.transfers_column)
 
-  pub connection_more : (r : Connection) → s.len < 4096
+  pub connection_more : (r : Connection) → s.len < 2730
       → connections_of (connection_lists (take (s.len + 1) (set s.sources s.len r.source)) (take (s.len + 1) (set s.sinks s.len r.sink)) (take (s.len + 1) (set s.transfers s.len r.transfer)))
       ≡ connections_of (connection_fronts s) ++ r ∷ []
   connection_more r h =

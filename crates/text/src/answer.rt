@@ -86,9 +86,8 @@ fn put_answer(page: &mut Page<'_>, text: &[u8])
     requires { Fresh page.old }
     ensures { Put (report_of text.now) page.old page.new }
 {
-    match put_text(page, text) {
-        Ok(()) => {}
-        Err(refusal) => page.put_refusal(refusal),
+    if let Err(refusal) = put_text(page, text) {
+        page.put_refusal(refusal);
     }
 }
 

@@ -1,9 +1,13 @@
-// A page: bytes that are filled from the front.
+// A page: lent bytes that are filled from the front, and where they end, since there is no heap. They are put by hand:
+// `write!` promises what stands there only where it answers `Ok`, and no contract says that it does, while the report is
+// promised whole. That a text has room is of the text as much as of the page: it is asked of each call, and is no invariant.
 ghost use Rattle.std.specs.Prelude.{◌++◌, [], ◌∷◌};
 ghost use Rattle.rules.specs.Bytes.{decimal};
 ghost use Rattle.rules.specs.Text.{field_line};
 ghost use Rattle.rules.specs.Report.{number_line, ids_text};
 ghost use Rattle.text.specs.Page.{Room, Put};
+
+use itoa::Buffer;
 
 #[derive(Drop)]
 pub(crate) struct Page<'a> {
@@ -23,6 +27,7 @@ impl Page<'_> {
     }
 
     // Puts a byte.
+    #[tactic(auto, using(crate::proofs::PutSteps::byte_put))]
     fn put_byte(&mut self, byte: u8)
         requires { Room (byte ∷ []) self.old }
         ensures { Put (byte ∷ []) self.old self.new }
@@ -31,16 +36,14 @@ impl Page<'_> {
         self.end += 1;
     }
 
-    // Puts a number's digits: those of its tenth, then the last.
-    pub(crate) fn put_number(&mut self, n: u64)
+    // Puts a number's digits.
+    #[tactic(auto, using(crate::proofs::PutSteps::printed_is))]
+    fn put_number(&mut self, n: u64)
         requires { Room (decimal n) self.old }
         ensures { Put (decimal n) self.old self.new }
     {
-        if n < 10 {
-            return self.put_byte(b'0' + n as u8);
-        }
-        self.put_number(n / 10);
-        self.put_byte(b'0' + (n % 10) as u8);
+        let mut digits = Buffer::new();
+        self.put(digits.format(n).as_bytes());
     }
 
     // Puts a name and a number after it.
@@ -70,8 +73,8 @@ impl Page<'_> {
             return;
         };
         self.put_number(*first);
-        for id in others {
-            self.put_named(b",", *id);
+        for &id in others {
+            self.put_named(b",", id);
         }
     }
 

@@ -78,7 +78,6 @@ fn read_counted<R: ReadRows>(
 }
 
 // Reads a text whole.
-
 pub(crate) fn read_scene(
     text: &[u8],
     components: &mut ComponentRows,

@@ -10,7 +10,7 @@ ghost use Rattle.text.specs.ReportLists.{reason_rows, projected_rows, label_rows
 
 use crate::page::Page;
 use projection::projected_path::projected_path;
-use rules::answers::{Assessment, BehaviorPattern, Refusal, TemporalScope};
+use rules::answers::{Assessment, BehaviorPattern, ReasonKind, Refusal, TemporalScope};
 use rules::lent::{AssessmentLists, LabelLists, ProjectionLists, ReasonLists};
 
 impl Page<'_> {
@@ -39,26 +39,31 @@ impl Page<'_> {
         }
     }
 
-    // Puts one reason. Its kind is a number of list 3, as the C interface has it.
+    // Puts one reason. Lists 3, 6 and 8 are as the C interface has them, a list for each field: so an entry is named by its
+    // place, and how many there are by the call's answer. What is none of the kinds' numbers is printed as the last. Numbers
+    // are widened with `as`, here and in put_edge, put_label and put_refusal: `u64::from` is no plainer, and took a step more
+    // in four proofs for each.
     fn put_reason(&mut self, feedback: &[u64], reasons: &ReasonLists<'_>, k: usize)
         requires within { ReasonsLent (k + 1) reasons.now }
         requires room { Room (reason_rows feedback.now reasons.now k) self.old }
         ensures { Put (reason_rows feedback.now reasons.now k) self.old self.new }
     {
         let component = reasons.components[k];
-        match reasons.kinds[k] {
-            0 => {
+        let kind = ReasonKind::try_from(reasons.kinds[k]).unwrap_or(ReasonKind::LockedRepeater);
+        match kind {
+            ReasonKind::UnequalReconvergentDelay => {
                 self.put_named(b"reason=unequal:", component);
                 self.put_named(b":", reasons.minimums[k] as u64);
                 self.put_line(b":", reasons.maximums[k] as u64);
             }
-            1 => self.put_ids_line(b"reason=feedback:", feedback),
-            2 => self.put_line(b"reason=stateful:", component),
-            _ => self.put_line(b"reason=locked:", component),
+            ReasonKind::FeedbackLoop => self.put_ids_line(b"reason=feedback:", feedback),
+            ReasonKind::StatefulOrMechanicalDevice => self.put_line(b"reason=stateful:", component),
+            ReasonKind::LockedRepeater => self.put_line(b"reason=locked:", component),
         }
     }
 
-    // Puts the first so many reasons.
+    // Puts the first so many reasons. Lists 6 and 8 have loops like this one: a common one would take what puts an entry as a
+    // closure that writes the page, with a clause on the page before and after, and be no plainer.
     fn put_reasons(&mut self, count: usize, feedback: &[u64], reasons: &ReasonLists<'_>)
         requires within { ReasonsLent count reasons.now }
         requires room { Room (rows (reason_rows feedback.now reasons.now) count) self.old }

@@ -1,5 +1,7 @@
 // The rows of a scene as they were read: a list for each field, filled from the front. A text has at most 65,536 bytes,
-// and a component takes 34 of them at least, a connection 24: so the lists have room for every text.
+// and a component takes 34 of them at least, a connection 24: so the lists have room for every text. There is no heap, so how
+// many entries are in use stands beside the lists. The two kinds are lent as lists of their own fields, by name: one generic
+// struct would need a trait over the fields, longer than both.
 ghost use Rattle.std.specs.Prelude.{◌≡◌, ◌<◌, [], ◌∷◌, ◌++◌, length};
 ghost use Rattle.rules.specs.Lent.{components_lent, connections_lent};
 ghost use Rattle.rules.specs.Report.{component_fields, connection_fields};
@@ -7,11 +9,12 @@ ghost use Rattle.reader.specs.Readings.{component_of, connection_of};
 
 use reader::rows::{ComponentRow, ConnectionRow};
 use rules::lent::{Components, Connections};
+use rules::limits::MAX_TEXT;
 use std::marker::Model;
 
-pub(crate) const COMPONENT_ROOM: usize = 2048;
+pub(crate) const COMPONENT_ROOM: usize = MAX_TEXT / 34;
 
-pub(crate) const CONNECTION_ROOM: usize = 4096;
+pub(crate) const CONNECTION_ROOM: usize = MAX_TEXT / 24;
 
 #[derive(Drop)]
 pub(crate) struct ComponentRows {
@@ -35,7 +38,7 @@ impl Model for ComponentRows {
 
     ghost view = { λ s. components_of (component_fronts s) };
 
-    ghost invariant = { λ s. s.len ≤ 2048 };
+    ghost invariant = { λ s. s.len ≤ 1927 };
 }
 
 impl ComponentRows {
@@ -57,7 +60,7 @@ impl ComponentRows {
 
     #[tactic(auto, using(crate::proofs::RowSteps::components_counted))]
     pub(crate) fn push(&mut self, row: ComponentRow)
-        requires { length self.old < 2048 }
+        requires { length self.old < 1927 }
         ensures { self.new ≡ self.old ++ component_of row ∷ [] }
     {
         let i = self.len;
@@ -106,7 +109,7 @@ impl Model for ConnectionRows {
 
     ghost view = { λ s. connections_of (connection_fronts s) };
 
-    ghost invariant = { λ s. s.len ≤ 4096 };
+    ghost invariant = { λ s. s.len ≤ 2730 };
 }
 
 impl ConnectionRows {
@@ -124,7 +127,7 @@ impl ConnectionRows {
 
     #[tactic(auto, using(crate::proofs::RowSteps::connections_counted))]
     pub(crate) fn push(&mut self, row: ConnectionRow)
-        requires { length self.old < 4096 }
+        requires { length self.old < 2730 }
         ensures { self.new ≡ self.old ++ connection_of row ∷ [] }
     {
         let i = self.len;

@@ -2,14 +2,16 @@
 use mathlib.Core.Bool.{Bool, true, false, cond}
 use mathlib.Core.List.{List, [], ◌∷◌, ◌++◌, map, map-append}
 use mathlib.Core.Path.{◌≡◌, refl, sym, ap, ◌∙◌}
-use Prim.Native.Nat.{ℕ, suc, ◌+◌, ◌-◌, ◌<◌, ◌≤◌}
+use Prim.Native.Nat.{ℕ, zero, suc, ◌+◌, ◌-◌, ◌<◌, ◌≤◌}
 use native.Mathlib.Omega.{arith}
 use borrow.Author.Tests.{ltb-false}
-use lib.Dec.{ltb, lt→ltb}
+use lib.Dec.{ltb}
 use lib.ListN.{length, get_or}
-use Rattle.std.specs.Prelude.{Some, None, Err}
+use Rattle.std.specs.Prelude.{Some, None, Ok, Err}
 use Rattle.std.specs.List.{position, position_or_len}
 use Rattle.std.proofs.lemmas.List.Sums.{fails_before_first}
+use Rattle.rules.specs.Decoded.{ReadsUnit}
+use Rattle.rules.specs.declared.transient.TraceTimeUnit.{TraceTimeUnit}
 use Rattle.rules.specs.Lists.{from, indices}
 use Rattle.rules.specs.Ordered.{Rises}
 use Rattle.rules.specs.Refusals.{Test, test, Checked, accepted, refused, first_refusal, rows}
@@ -62,8 +64,10 @@ position-none p xs d e k h = let b : k < position_or_len p xs = go (ltb (positio
     go false q n = omega (arith, ltb-false (position_or_len p xs) (length xs) q)
 
 -- The unit, the events, the contracts
-pub unit-refused : (t : TraceLists) → 1 < t.unit → refused TraceOutOfRange 0 ≡ first_refusal (value_tests t)
-unit-refused t h = stop (ltb 1 t.unit) _ (lt→ltb 1 t.unit h)
+pub read-fits : (code : ℕ) {unit : TraceTimeUnit} → ReadsUnit code (Ok unit) → code ≤ 1
+read-fits zero e = omega arith
+read-fits (suc zero) e = omega arith
+read-fits (suc (suc code)) e = cc
 
 module _ (t : TraceLists) (fits : t.unit ≤ 1) where
   abbrev event_tests : List Test
@@ -92,17 +96,9 @@ module _ (start : ℕ) (trace : Trace) (room : ℕ) where
   abbrev sizes : List Test
   sizes = size_tests trace_limits t need room
 
-  pub lengths-refused : {r : Refusal} → Err r ≡ first_refusal (length_tests t) → Err r ≡ first_refusal (trace_tests trace_limits t need (room ∷ []))
-  unfolding trace_tests
-  lengths-refused e = stay (length_tests t) (sizes ++ value_tests t) e
-
   module _ (alike : accepted ≡ first_refusal (length_tests t)) where
-    pub sizes-refused : {r : Refusal} → Err r ≡ first_refusal sizes → Err r ≡ first_refusal (trace_tests trace_limits t need (room ∷ []))
-    unfolding trace_tests
-    sizes-refused e = skip (length_tests t) (sizes ++ value_tests t) alike (stay sizes (value_tests t) e)
-
     module _ (few : accepted ≡ first_refusal sizes) {it : Trace} (same : it ≡ trace) where
-      pub then-values : {v : Checked} → v ≡ first_refusal (value_tests (trace_lent it)) → v ≡ first_refusal (trace_tests trace_limits t need (room ∷ []))
+      then-values : {v : Checked} → v ≡ first_refusal (value_tests (trace_lent it)) → v ≡ first_refusal (trace_tests trace_limits t need (room ∷ []))
       unfolding trace_tests
       then-values e = skip (length_tests t) (sizes ++ value_tests t) alike (skip sizes (value_tests t) few (e ∙ ap (λ x. first_refusal (value_tests (trace_lent x))) same))
 

@@ -3,22 +3,20 @@ use mathlib.Core.Bool.{Bool}
 use mathlib.Core.List.{List, [], ◌∷◌, map, map-map, Memᴰ}
 use mathlib.Core.Path.{◌≡◌, refl, sym, ap, subst, ◌∙◌}
 use Prim.Native.Nat.{ℕ, ◌+◌, ◌≤◌}
-use native.Mathlib.Nat.{zero-add}
 use native.Mathlib.Omega.{arith}
 use lib.ListN.{length, take, length-map}
-use Rattle.std.specs.Prelude.{Result, Ok, Err}
+use Rattle.std.specs.Prelude.{Ok, Err}
 use Rattle.rules.specs.Lists.{written_from}
 use Rattle.rules.specs.Ordered.{ordered}
 use Rattle.rules.specs.Codes.{unit_of}
 use Rattle.rules.specs.Refusals.{Checked, accepted, first_refusal, shortest}
 use Rattle.rules.specs.Verdicts.{contracts_of, Finding, finding_of, findings, FindingLists, finding_lengths, FindingsListed}
 use Rattle.rules.specs.Windows.{window_places, pulse_at}
-use Rattle.rules.specs.Traces.{TraceLimits, trace_limits, TraceLists, event_count, contract_count, trace_tests, check_trace, trace_findings, AssessedBy, TraceCall, TraceCallFrom}
+use Rattle.rules.specs.Traces.{TraceLimits, trace_limits, TraceLists, event_count, contract_count, trace_tests, trace_findings, AssessedBy}
 use Rattle.rules.specs.Lent.{events_lent, contracts_lent, trace_lent, findings_lent}
 use Rattle.rules.specs.declared.lent.Trace.{Trace}
 use Rattle.rules.specs.declared.lent.Findings.{Findings}
 use Rattle.rules.specs.declared.answers.Refusal.{Refusal}
-use Rattle.rules.specs.declared.transient.TransientAssessment.{TransientAssessment}
 use Rattle.rules.proofs.Ordering.{ordered-length, ordered-below}
 use Rattle.rules.proofs.Shortest.{short-any}
 use Rattle.rules.proofs.TraceAcceptance.{AcceptedTrace, accepted→trace, refused-assessed}
@@ -150,7 +148,3 @@ module _ (start : ℕ) (trace : Trace) (lent : Findings) {room : ℕ} (shortest-
         pub accepted-call : {new : FindingLists} {tallies' : List ℕ} → FindingsWritten (contracts_of (contracts_lent it.contracts)) it.unit (events_lent it.events) row places start old new tallies'
             → AssessedBy checked start t old new (Ok (record { findings = length places; contracts_applied = length t.contracts.components; tallies = tallies' }))
         accepted-call {new} {tallies'} w = written-call (subst (λ x. FindingsWritten (contracts_of (contracts_lent x.contracts)) x.unit (events_lent x.events) row places start old new tallies') same w)
-
-pub from_front : (t : TraceLists) (old new : FindingLists) (r : Result TransientAssessment Refusal) → TraceCallFrom trace_limits 0 t old new r → TraceCall trace_limits t old new r
-unfolding check_trace
-from_front t old new r a = rw (zero-add (event_count t)) at a

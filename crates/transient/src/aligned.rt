@@ -8,12 +8,12 @@ ghost use Rattle.rules.specs.Traces.{event_lengths, contract_lengths};
 ghost use Rattle.verdicts.specs.Read.{event_read, contract_read};
 
 use lengths::lengths_differ;
-use rules::answers::{Refusal, RefusalKind};
+use rules::answers::{RecordKind, Refusal, RefusalKind};
 use rules::lent::{Contracts, Events, Trace};
 use verdicts::contract::Contract;
 use verdicts::pulse::Event;
 
-// Whether the lists of events differ in length.
+// Whether the lists of events differ in length. Like contracts_differ but for the lists: what the two share is lengths_differ.
 #[tactic(auto, unfolding(rules::specs::Traces::event_lengths))]
 fn events_differ(events: &Events<'_>) -> bool
     ensures { result ≡ lengths_differ (event_lengths (events_lent events.now)) }
@@ -55,7 +55,7 @@ impl<'a> AlignedTrace<'a> {
     ghost use Rattle.transient.specs.Tested.{checked_of, length_tests};
 
     // Tests the lengths: 8.
-    #[tactic(auto, unfolding(rules::specs::Refusals::first_refusal))]
+    #[tactic(auto, unfolding(rules::specs::Refusals::first_refusal, rules::specs::Traces::event_lengths, rules::specs::Traces::contract_lengths, rules::specs::Lists::any))]
     pub(crate) fn align(trace: &Trace<'a>) -> Result<AlignedTrace<'a>, Refusal>
         ensures checked { checked_of result ≡ first_refusal (length_tests (trace_lent trace.now)) }
         ensures trace { IfOk result (λ t. t.lent ≡ trace.now) }
@@ -63,13 +63,13 @@ impl<'a> AlignedTrace<'a> {
         if events_differ(&trace.events) {
             return Err(Refusal {
                 kind: RefusalKind::LengthsDiffer,
-                place: 2,
+                place: RecordKind::Events as u64,
             });
         }
         if contracts_differ(&trace.contracts) {
             return Err(Refusal {
                 kind: RefusalKind::LengthsDiffer,
-                place: 3,
+                place: RecordKind::Contracts as u64,
             });
         }
         Ok(AlignedTrace { lent: *trace })

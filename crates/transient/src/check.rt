@@ -8,7 +8,7 @@ ghost use Rattle.transient.specs.Tested.{checked_of, size_tests};
 
 use crate::accepted::AcceptedTrace;
 use crate::aligned::AlignedTrace;
-use rules::answers::{Refusal, RefusalKind};
+use rules::answers::{OutputList, Refusal, RefusalKind};
 use rules::lent::Trace;
 use rules::limits::{MAX_CONTRACTS, MAX_EVENTS};
 
@@ -17,10 +17,7 @@ use rules::limits::{MAX_CONTRACTS, MAX_EVENTS};
 fn too_short(room: usize, start: usize, n: usize) -> bool
     ensures { result ≡ nat_lt room (start + n) }
 {
-    match start.checked_add(n) {
-        Some(need) => room < need,
-        None => true,
-    }
+    start.checked_add(n).is_none_or(|need| room < need)
 }
 
 // 9, 10 and 7.
@@ -45,13 +42,14 @@ fn check_sizes(start: usize, trace: &Trace<'_>, room: usize) -> Result<(), Refus
     if too_short(room, start, events) {
         return Err(Refusal {
             kind: RefusalKind::ListTooShort,
-            place: 9,
+            place: OutputList::Findings as u64,
         });
     }
     Ok(())
 }
 
 // Tests a trace whose findings are to be written from start on to a list with room for so many entries.
+#[tactic(auto, unfolding(rules::specs::Refusals::first_refusal, rules::specs::Traces::trace_tests, rules::specs::Lists::any))]
 pub(crate) fn check_trace<'a>(
     start: usize,
     trace: &Trace<'a>,
@@ -62,6 +60,6 @@ pub(crate) fn check_trace<'a>(
 {
     let aligned = AlignedTrace::align(trace)?;
     check_sizes(start, trace, room)?;
-    aligned.check_values()?;
-    Ok(AcceptedTrace { aligned })
+    let unit = aligned.check_values()?;
+    Ok(AcceptedTrace { aligned, unit })
 }

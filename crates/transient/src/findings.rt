@@ -9,7 +9,6 @@ ghost use Rattle.transient.specs.Judged.{finding_read, found, AllInside, Finding
 use crate::pulses::EventRow;
 use rules::lent::Findings;
 use rules::transient::{Judgement, TransientVerdict};
-use tables::codes::unit_of;
 use verdicts::pulse::Pulse;
 
 // A pulse and what is judged of it.
@@ -52,11 +51,12 @@ fn count_verdict(tallies: &mut [u64; 5], verdict: TransientVerdict)
 
 impl EventRow<'_> {
     // The finding of the pulse that begins at a place, by the contract of its component.
+    #[tactic(auto, unfolding(rules::specs::Windows::pulse_at, rules::specs::Verdicts::finding_of))]
     fn finding(self, k: usize) -> Finding
         requires { k + 2 < length self.positions.now }
         ensures { finding_read result ≡ found (contracts_of (contracts_lent self.entry.trace.aligned.lent.contracts)) self.entry.trace.aligned.lent.unit (events_lent self.entry.trace.aligned.lent.events) self.entry.positions.now k }
     {
-        let pulse = self.window(k).pulse(unit_of(self.trace.aligned.lent.unit));
+        let pulse = self.window(k).pulse(self.trace.unit);
         let judgement = pulse.classify(self.trace.design_intent(pulse.component));
         Finding { pulse, judgement }
     }

@@ -44,7 +44,8 @@ impl EventRow<'_> {
     }
 
     // Writes the places at which a pulse begins to the front of a list, in order, and answers that part of it; past it the
-    // list is open, since each place is written, and counted only where a pulse begins.
+    // list is open, since each place is written, and counted only where a pulse begins. It goes by the places: by windows(3) of
+    // the positions the whole call took a quarter longer.
     pub(crate) fn observe_pulses<'b>(self, places: &'b mut [usize]) -> &'b [usize]
         requires { length self.positions.now ≤ length places.old }
         ensures { result.now ≡ window_places (events_lent self.entry.trace.aligned.lent.events) self.entry.positions.now (length self.entry.positions.now) }

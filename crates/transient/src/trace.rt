@@ -64,6 +64,7 @@ pub fn assess_from(
 }
 
 // The same from the front of list 9.
+#[tactic(auto, unfolding(rules::specs::Traces::check_trace))]
 pub fn assess_transients(
     trace: &Trace<'_>,
     findings: &mut Findings<'_>,

@@ -40,8 +40,7 @@ impl Pulse {
                 maximum_width_ticks,
             } => {
                 if self.fits(polarity, time_unit)
-                    && minimum_width_ticks <= self.width
-                    && self.width <= maximum_width_ticks
+                    && (minimum_width_ticks..=maximum_width_ticks).contains(&self.width)
                 {
                     (TransientVerdict::IntentionalPulse, Rationale::PulseFits)
                 } else {

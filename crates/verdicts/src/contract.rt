@@ -4,10 +4,11 @@ ghost use Rattle.rules.specs.Traces.{contract_out_of_range};
 ghost use Rattle.rules.specs.Verdicts.{intent_of};
 ghost use Rattle.verdicts.specs.Read.{contract_read};
 
-use rules::transient::SignalIntent;
+use rules::transient::{IntentKind, PulsePolarity, SignalIntent, TraceTimeUnit};
 use tables::codes::{polarity_of, unit_of};
 
-// The values of a contract. Those that its intent doesn't use are not looked at.
+// The values of a contract. Those that its intent doesn't use are not looked at. They stay numbers, since each is an entry of
+// a list that the C interface lends, and may be any number until it is tested.
 #[derive(Clone, Copy, PartialEq, Eq, Debug)]
 pub struct Contract {
     pub component: u64,
@@ -25,31 +26,34 @@ impl Contract {
     pub fn out_of_range(self) -> bool
         ensures { result ≡ contract_out_of_range (contract_read self) }
     {
-        match self.intent {
-            0 => false,
-            1 => 1 < self.powered,
-            2 | 3 => 1 < self.polarity || 1 < self.unit,
-            _ => true,
+        match IntentKind::try_from(self.intent) {
+            Ok(IntentKind::SteadyStateOnly) => false,
+            Ok(IntentKind::Stable) => 1 < self.powered,
+            Ok(IntentKind::IntentionalPulse | IntentKind::MaximumPulseWidth) => {
+                PulsePolarity::try_from(self.polarity).is_err()
+                    || TraceTimeUnit::try_from(self.unit).is_err()
+            }
+            Err(_) => true,
         }
     }
 
-    // The intent that the values stand for, that of 3 past the last.
+    // The intent that the values stand for, that of the last kind where they name none.
     #[tactic(auto, unfolding(rules::specs::Verdicts::intent_of))]
     pub fn signal_intent(self) -> SignalIntent
         ensures { result ≡ intent_of (contract_read self) }
     {
-        match self.intent {
-            0 => SignalIntent::SteadyStateOnly,
-            1 => SignalIntent::Stable {
+        match IntentKind::try_from(self.intent).unwrap_or(IntentKind::MaximumPulseWidth) {
+            IntentKind::SteadyStateOnly => SignalIntent::SteadyStateOnly,
+            IntentKind::Stable => SignalIntent::Stable {
                 powered: 0 < self.powered,
             },
-            2 => SignalIntent::IntentionalPulse {
+            IntentKind::IntentionalPulse => SignalIntent::IntentionalPulse {
                 polarity: polarity_of(self.polarity),
                 time_unit: unit_of(self.unit),
                 minimum_width_ticks: self.smallest,
                 maximum_width_ticks: self.largest,
             },
-            _ => SignalIntent::MaximumPulseWidth {
+            IntentKind::MaximumPulseWidth => SignalIntent::MaximumPulseWidth {
                 polarity: polarity_of(self.polarity),
                 time_unit: unit_of(self.unit),
                 maximum_width_ticks: self.largest,

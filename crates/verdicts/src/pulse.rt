@@ -5,7 +5,8 @@ ghost use Rattle.verdicts.specs.Read.{event_read, pulse_read};
 
 use rules::transient::{PulsePolarity, TraceTimeUnit};
 
-// An event, with its place in the trace. Any number but 0 stands for powered.
+// An event, with its place in the trace. Any number but 0 stands for powered, which stays a number, since it is an entry of a
+// list that the C interface lends.
 #[derive(Clone, Copy, PartialEq, Eq, Debug)]
 pub struct Event {
     pub index: usize,

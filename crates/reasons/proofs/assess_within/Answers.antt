@@ -2,23 +2,17 @@
 use mathlib.Core.Path.{◌∙◌}
 use Rattle.rules.specs.Lent.{components_lent}
 use Rattle.reasons.proofs.PatternSteps.{pattern-marked}
-use Rattle.reasons.proofs.AssessSteps.{front_most, front_length, labels-long, unequal-asked, unequal_room, reasons-found}
+use Rattle.reasons.proofs.AssessSteps.{labels-long, unequal-asked, unequal_room, reasons-found}
 use Rattle.reasons.proofs.assess_within.Goals as goal
 
-pub slice_bounds-unequal-end : goal.slice_bounds-unequal-end
-slice_bounds-unequal-end c = front_most (components_lent c.args.components.now) c.args.edges.now.sources.now c.args.edges.now.sinks.now c.args.order.now c.requires.0 (c.requires.1.settled_room, c.requires.1.lows_room, c.requires.1.highs_room) c.sum_paths-count.ensures.summed
-
-pub slice_bounds-list_unequal_reasons-end : goal.slice_bounds-list_unequal_reasons-end
-slice_bounds-list_unequal_reasons-end c = front_length (components_lent c.args.components.now) c.args.edges.now.sources.now c.args.edges.now.sinks.now c.args.order.now c.requires.0 (c.requires.1.settled_room, c.requires.1.lows_room, c.requires.1.highs_room) c.sum_paths-count.ensures.summed
-
 pub list_unequal_reasons-all-requires : goal.list_unequal_reasons-all-requires
-list_unequal_reasons-all-requires c = (unequal-asked (components_lent c.args.components.now) c.args.edges.now.sources.now c.args.edges.now.sinks.now c.args.order.now c.requires.0 (c.requires.1.settled_room, c.requires.1.lows_room, c.requires.1.highs_room) c.sum_paths-count.ensures.summed, unequal_room (components_lent c.args.components.now) c.args.edges.now.sources.now c.args.edges.now.sinks.now c.args.order.now c.requires.0 (c.requires.1.settled_room, c.requires.1.lows_room, c.requires.1.highs_room) c.sum_paths-count.ensures.summed _ _ c.requires.1.reason_room c.list_temporal_reasons-temporal.ensures.listed)
+list_unequal_reasons-all-requires c = (unequal-asked (components_lent c.args.components.now) c.args.edges.now.sources.now c.args.edges.now.sinks.now c.args.order.now c.requires.0 (c.requires.1.settled_room, c.requires.1.lows_room, c.requires.1.highs_room) c.sum_paths-unequal.ensures.summed, unequal_room (components_lent c.args.components.now) c.args.edges.now.sources.now c.args.edges.now.sinks.now c.args.order.now c.requires.0 (c.requires.1.settled_room, c.requires.1.lows_room, c.requires.1.highs_room) c.sum_paths-unequal.ensures.summed _ _ c.requires.1.reason_room c.list_temporal_reasons-temporal.ensures.listed)
 
 pub clear_unsettled-requires : goal.clear_unsettled-requires
-clear_unsettled-requires c = labels-long (components_lent c.args.components.now) c.args.edges.now.sources.now c.args.edges.now.sinks.now c.args.order.now c.requires.0 (c.requires.1.settled_room, c.requires.1.lows_room, c.requires.1.highs_room) c.sum_paths-count.ensures.summed
+clear_unsettled-requires c = labels-long (components_lent c.args.components.now) c.args.edges.now.sources.now c.args.edges.now.sinks.now c.args.order.now c.requires.0 (c.requires.1.settled_room, c.requires.1.lows_room, c.requires.1.highs_room) c.sum_paths-unequal.ensures.summed
 
 pub returns-clause-found : goal.returns-clause-found
 returns-clause-found c =
-    reasons-found (components_lent c.args.components.now) c.args.edges.now.sources.now c.args.edges.now.sinks.now c.args.order.now c.requires.0 (c.requires.1.settled_room, c.requires.1.lows_room, c.requires.1.highs_room) c.sum_paths-count.ensures.summed c.requires.1.reason_room
+    reasons-found (components_lent c.args.components.now) c.args.edges.now.sources.now c.args.edges.now.sinks.now c.args.order.now c.requires.0 (c.requires.1.settled_room, c.requires.1.lows_room, c.requires.1.highs_room) c.sum_paths-unequal.ensures.summed c.requires.1.reason_room
     c.list_shared-feedback.ensures.ids c.list_shared-feedback.ensures.counted c.list_temporal_reasons-temporal.ensures.listed c.list_unequal_reasons-all.ensures.listed c.clear_unsettled.ensures.cleared c.temporal_scope.ensures
     (c.classify_behavior_patterns.ensures ∙ pattern-marked _ _ _ _ _ _ c.requires.0.kinds_length c.list_shared-feedback.ensures.marked c.list_shared-feedback.ensures.counted)

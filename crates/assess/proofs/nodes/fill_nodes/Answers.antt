@@ -1,7 +1,5 @@
 -- The components are gone through in order. Assumes nothing.
-use Rattle.std.proofs.Common.{cond, ℕ, ap, ◌∙◌, arith}
-use Rattle.rules.specs.Projection.{is_delayed_invert, compressible_kind}
-use Rattle.rules.specs.declared.kinds.KindRow.{KindRow}
+use Rattle.std.proofs.Common.{arith, rules}
 use Rattle.rules.proofs.Made.{made_none, made_more}
 use Rattle.tables.proofs.Table.{delay-of-row}
 use Rattle.assess.proofs.nodes.fill_nodes.Goals as goal
@@ -15,6 +13,6 @@ loop-i-preserved c =
     let row = c.kind_row-row.ensures in
     record {
       low = made_more _ 0 _ c.loop-i.i _ _ _ (omega arith) (omega arith) (delay-of-row _ _ _ _ row c.delay_by.ensures) m.low;
-      inverts = made_more _ 0 _ c.loop-i.i _ _ _ (omega arith) (omega arith) (c.inverts_by.ensures ∙ ap (λ (r : KindRow). let n : ℕ = cond (is_delayed_invert r.behavior) 1 0 in n) row) m.inverts;
-      compressible = made_more _ 0 _ c.loop-i.i _ _ _ (omega arith) (omega arith) (c.is_compressible.ensures ∙ ap (λ (r : KindRow). let n : ℕ = cond (compressible_kind r.node) 1 0 in n) row) m.compressible;
+      inverts = made_more _ 0 _ c.loop-i.i _ _ _ (omega arith) (omega arith) (rw (c.from.ensures, c.inverts.ensures, row) (search rules)) m.inverts;
+      compressible = made_more _ 0 _ c.loop-i.i _ _ _ (omega arith) (omega arith) (rw (c.from-in-loop-i.ensures, c.is_compressible.ensures, row) (search rules)) m.compressible;
     }

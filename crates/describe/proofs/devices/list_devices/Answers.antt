@@ -29,27 +29,27 @@ loop-i-preserved c =
           rw (w.devices-is, w.count-is) (
             search rules,
             record {
-              components = listed_more _ _ 0 _ _ _ m.components e _ p (omega arith) _ refl;
-              xs = listed_more _ _ 0 _ _ _ m.xs e _ p (omega arith) _ (search rules);
-              ys = listed_more _ _ 0 _ _ _ m.ys e _ p (omega arith) _ (search rules);
-              zs = listed_more _ _ 0 _ _ _ m.zs e _ p (omega arith) _ (search rules);
-              semantics = listed_more _ _ 0 _ _ _ m.semantics e _ p (omega arith) _ w.meaning_code.ensures;
-              delays = listed_more _ _ 0 _ _ _ m.delays e _ p (omega arith) _ w.component_delay.ensures;
+              components = listed_more m.components e p (omega arith) refl;
+              xs = listed_more m.xs e p (omega arith) (search rules);
+              ys = listed_more m.ys e p (omega arith) (search rules);
+              zs = listed_more m.zs e p (omega arith) (search rules);
+              semantics = listed_more m.semantics e p (omega arith) w.meaning_code.ensures;
+              delays = listed_more m.delays e p (omega arith) w.component_delay.ensures;
             },
-            placed_more _ 0 _ _ p e,
+            placed_more p e,
           )
       | else-is_device w ↦
           let e = passed kinds c.loop-i.i (sym w.if-is_device.false ∙ c.is_device.ensures) in
           rw (w.devices-is, w.count-is) (
             c.loop-i.invariant.0,
             record {
-              components = listed_same _ _ 0 _ _ _ m.components e;
-              xs = listed_same _ _ 0 _ _ _ m.xs e;
-              ys = listed_same _ _ 0 _ _ _ m.ys e;
-              zs = listed_same _ _ 0 _ _ _ m.zs e;
-              semantics = listed_same _ _ 0 _ _ _ m.semantics e;
-              delays = listed_same _ _ 0 _ _ _ m.delays e;
+              components = listed_same m.components e;
+              xs = listed_same m.xs e;
+              ys = listed_same m.ys e;
+              zs = listed_same m.zs e;
+              semantics = listed_same m.semantics e;
+              delays = listed_same m.delays e;
             },
-            placed_same _ 0 _ _ p e,
+            placed_same p e,
           )
     ]

@@ -1,11 +1,12 @@
 -- The components are gone through in order. Assumes nothing.
-use Rattle.std.proofs.Common.{refl, sym, ◌∙◌, arith, rules}
+use Rattle.std.proofs.Common.{length, refl, sym, ap, ◌∙◌, arith, rules, length-append}
+use Rattle.rules.specs.Kinds.{kind_row, is_device}
+use Rattle.std.proofs.lemmas.Slice.Zip.{zip_turn}
 use Rattle.describe.proofs.DeviceSteps.{taken, passed, placed_none, placed_more, placed_same, listed_none, listed_more, listed_same}
-use Rattle.describe.proofs.evidence.list_device_evidence.Goals.{then-is_device, else-is_device}
 use Rattle.describe.proofs.evidence.list_device_evidence.Goals as goal
 
-pub loop-i-init : goal.loop-i-init
-loop-i-init c = (
+pub loop-id-init : goal.loop-id-init
+loop-id-init c = (
   search rules,
   record {
     kinds = listed_none _ _ _ _;
@@ -17,36 +18,39 @@ loop-i-init c = (
   placed_none _ _,
 )
 
-pub loop-i-preserved : goal.loop-i-preserved
-loop-i-preserved c =
+pub loop-id-preserved-then-is_device : goal.loop-id-preserved-then-is_device
+loop-id-preserved-then-is_device c =
     let kinds = c.args.components.now.kinds.now in
-    let m = c.loop-i.invariant.1 in
-    let p = c.loop-i.invariant.2 in
-    elim c.if-is_device.branch [
-      | then-is_device w ↦
-          let e = taken kinds c.loop-i.i (sym w.if-is_device.true ∙ c.is_device.ensures) in
-          rw (w.evidence-is, w.place-is) (
-            search rules,
-            record {
-              kinds = listed_more _ _ _ _ _ _ m.kinds e _ p (omega arith) _ w.from.ensures;
-              sources = listed_more _ _ _ _ _ _ m.sources e _ p (omega arith) _ refl;
-              sinks = listed_more _ _ _ _ _ _ m.sinks e _ p (omega arith) _ refl;
-              components = listed_more _ _ _ _ _ _ m.components e _ p (omega arith) _ refl;
-              blocks = listed_more _ _ _ _ _ _ m.blocks e _ p (omega arith) _ refl;
-            },
-            placed_more _ _ _ _ p e,
-          )
-      | else-is_device w ↦
-          let e = passed kinds c.loop-i.i (sym w.if-is_device.false ∙ c.is_device.ensures) in
-          rw (w.evidence-is, w.place-is) (
-            c.loop-i.invariant.0,
-            record {
-              kinds = listed_same _ _ _ _ _ _ m.kinds e;
-              sources = listed_same _ _ _ _ _ _ m.sources e;
-              sinks = listed_same _ _ _ _ _ _ m.sinks e;
-              components = listed_same _ _ _ _ _ _ m.components e;
-              blocks = listed_same _ _ _ _ _ _ m.blocks e;
-            },
-            placed_same _ _ _ _ p e,
-          )
-    ]
+    let t = zip_turn c.args.components.now.ids.now kinds c.loop-id.yielded _ _ c.next.new.self _ (cc) (cc) c.loop-id.yielded_by _ c.in-Some.is c.next.ensures.steps in
+    let m = c.loop-id.invariant.1 in
+    let p = c.loop-id.invariant.2 in
+    let e = taken kinds (length c.loop-id.yielded) (sym c.if-is_device.true ∙ c.is_device.ensures ∙ ap (λ k. is_device (kind_row k)) (t.3 0)) in
+    rw (length-append c.loop-id.yielded) (
+      search rules,
+      record {
+        kinds = listed_more m.kinds e p (omega arith) c.from.ensures;
+        sources = listed_more m.sources e p (omega arith) refl;
+        sinks = listed_more m.sinks e p (omega arith) refl;
+        components = listed_more m.components e p (omega arith) (t.2 0);
+        blocks = listed_more m.blocks e p (omega arith) (t.3 0);
+      },
+      placed_more p e,
+    )
+
+pub loop-id-preserved : goal.loop-id-preserved
+loop-id-preserved c =
+    let kinds = c.args.components.now.kinds.now in
+    let t = zip_turn c.args.components.now.ids.now kinds c.loop-id.yielded _ _ c.next.new.self _ (cc) (cc) c.loop-id.yielded_by _ c.in-Some.is c.next.ensures.steps in
+    let m = c.loop-id.invariant.1 in
+    let e = passed kinds (length c.loop-id.yielded) (sym c.if-is_device.false ∙ c.is_device.ensures ∙ ap (λ k. is_device (kind_row k)) (t.3 0)) in
+    rw (length-append c.loop-id.yielded) (
+      c.loop-id.invariant.0,
+      record {
+        kinds = listed_same m.kinds e;
+        sources = listed_same m.sources e;
+        sinks = listed_same m.sinks e;
+        components = listed_same m.components e;
+        blocks = listed_same m.blocks e;
+      },
+      placed_same c.loop-id.invariant.2 e,
+    )

@@ -1,10 +1,10 @@
 -- `visit` and `walk` visit nodes depth-first. The measure is twice the number of nodes not seen, and one more for a walk. Assumes nothing.
-use mathlib.Core.Path.{refl}
+use mathlib.Core.Path.{◌≡◌, refl}
 use native.Mathlib.Omega.{arith}
+use Rattle.graph.proofs.Chains.{step-on, step-end}
 use Rattle.graph.proofs.Visits.{below-t}
 use Rattle.graph.proofs.OrderSteps.{visit-old, fewer, marked, place, visit-new, no_more, walking-none, walking-ready, walking-more, walked}
 use Rattle.graph.proofs.visit_order.+visit_walk.Goals as goal
-use Rattle.graph.proofs.visit_order.+visit_walk.Goals.{walk-then-marks-v-eq0, walk-else-marks-v-eq0}
 
 pub visit-walk-done-requires : goal.visit-walk-done-requires
 visit-walk-done-requires t c =
@@ -43,26 +43,34 @@ visit-returns t c =
     visit-new p.0 a.u p.1 c.if-marks-u-ne0.false c.walk-done.ensures
 
 pub walk-loop-e-init : goal.walk-loop-e-init
-walk-loop-e-init t c = walking-none _ _ _ _ _ _ _
+walk-loop-e-init t c =
+    let at : c.into_iter-e-iterator.result.at ≡ c.args.first = cc in
+    (cc, rw at (walking-none _ _ _ _ _ _ _))
 
 pub walk-visit-done-requires : goal.walk-visit-done-requires
 walk-visit-done-requires t c =
     let p = c.requires in
-    let l = c.loop-e in (
-      below-t c.decreases (omega (arith, no_more p l.invariant.visited l.invariant.size)),
-      (walking-ready p c.args.first l.e l.invariant, p.linked.inside l.e (omega (arith, c.loop-e-test.true, p.linked.pairs))),
+    let l = c.loop-e in
+    let s = step-on c.args.links.now.next.now l.e-iterator l.invariant.0 c.in-Some.e c.next.new.self c.in-Some.ensures.steps in (
+      below-t c.decreases (omega (arith, no_more p l.invariant.1.visited l.invariant.1.size)),
+      (walking-ready p c.args.first _ l.invariant.1, p.linked.inside c.in-Some.e (omega (arith, s.0, p.linked.pairs))),
     )
+
+pub walk-loop-e-preserved-then-marks-v-eq0 : goal.walk-loop-e-preserved-then-marks-v-eq0
+walk-loop-e-preserved-then-marks-v-eq0 t c =
+    let p = c.requires in
+    let l = c.loop-e in
+    let s = step-on c.args.links.now.next.now l.e-iterator l.invariant.0 c.in-Some.e c.next.new.self c.in-Some.ensures.steps in
+    (s.2, rw s.3 (walking-more p c.args.first c.in-Some.e (rw s.1 at l.invariant.1) s.0 c.visit-done.ensures c.visit-done.auto.order))
 
 pub walk-loop-e-preserved : goal.walk-loop-e-preserved
 walk-loop-e-preserved t c =
     let p = c.requires in
-    let first = c.args.first in
     let l = c.loop-e in
-    let more = c.loop-e-test.true in
-    elim c.if-marks-v-eq0.branch [
-      | walk-then-marks-v-eq0 w ↦ rw (w.marks-is, w.order-is, w.done-is) (walking-more p first l.e l.invariant more w.visit-done.ensures w.visit-done.auto.order)
-      | walk-else-marks-v-eq0 w ↦ rw (w.marks-is, w.order-is, w.done-is) (walking-more p first l.e l.invariant more (visit-old (walking-ready p first l.e l.invariant) _ w.if-marks-v-eq0.false) refl)
-    ]
+    let s = step-on c.args.links.now.next.now l.e-iterator l.invariant.0 c.in-Some.e c.next.new.self c.in-Some.ensures.steps in
+    (s.2, rw s.3 (walking-more p c.args.first c.in-Some.e (rw s.1 at l.invariant.1) s.0 (visit-old (walking-ready p c.args.first _ l.invariant.1) _ c.if-marks-v-eq0.false) refl))
 
 pub walk-returns : goal.walk-returns
-walk-returns t c = walked c.requires c.args.first c.loop-e.e c.loop-e.invariant c.loop-e-test.false
+walk-returns t c =
+    let l = c.loop-e in
+    walked c.requires c.args.first _ l.invariant.1 (step-end c.args.links.now.next.now l.e-iterator l.invariant.0 c.next.new.self c.in-None.ensures.steps)

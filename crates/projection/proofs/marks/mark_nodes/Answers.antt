@@ -1,21 +1,15 @@
 -- `mark_nodes` marks the nodes one by one. Assumes nothing.
-use mathlib.Core.Bool.{true, false}
-use mathlib.Core.Path.{sym, ◌∙◌}
+use mathlib.Core.Bool.{not}
+use mathlib.Core.Path.{ap}
 use native.Mathlib.Omega.{arith}
 use Rattle.projection.proofs.MarkSteps.{marked-none, marked-few, marked_more}
 use Rattle.projection.proofs.marks.mark_nodes.Goals as goal
-use Rattle.projection.proofs.marks.mark_nodes.Goals.{then-is_compressed, else-is_compressed}
 
 pub loop-v-init : goal.loop-v-init
 loop-v-init c = marked-none _ _ _ _ _ c.requires.nodes
 
 pub overflow_add-retained : goal.overflow_add-retained
-overflow_add-retained c = omega (arith, marked-few _ _ _ _ _ _ _ c.loop-v.invariant)
+overflow_add-retained c = omega (arith, marked-few _ _ _ _ _ _ _ c.loop-v.invariant, c.from-retained.ensures)
 
 pub loop-v-preserved : goal.loop-v-preserved
-loop-v-preserved c =
-    let more = marked_more _ _ _ _ _ _ _ c.loop-v.invariant c.loop-v-test.true in
-    elim c.if-is_compressed.branch [
-      | then-is_compressed w ↦ rw (w.marks-is, w.retained-is) (more true (sym c.is_compressed.ensures ∙ w.if-is_compressed.true))
-      | else-is_compressed w ↦ rw (w.marks-is, w.retained-is) (more false (sym c.is_compressed.ensures ∙ w.if-is_compressed.false))
-    ]
+loop-v-preserved c = rw (c.from.ensures, c.from-retained.ensures) (marked_more _ _ _ _ _ _ _ c.loop-v.invariant (omega arith) _ (ap not c.is_compressed-kept.ensures))

@@ -2,15 +2,20 @@
 use mathlib.Core.Bool.{true, false}
 use mathlib.Core.Path.{sym, ◌∙◌}
 use native.Mathlib.Omega.{arith}
+use lib.ListN.{length, length-append}
 use Rattle.reasons.proofs.ListingSteps.{listed_start, listed_more}
+use Rattle.reasons.proofs.SideBySide.{turn}
 use Rattle.reasons.proofs.feedback.list_marked.Goals as goal
-use Rattle.reasons.proofs.feedback.list_marked.Goals.{then-is_listed, else-is_listed}
 
-pub loop-i-init : goal.loop-i-init
-loop-i-init c = listed_start c.args.ids.now c.args.kinds.now c.args.marks.now c.args.feedback_ids.now
+pub loop-id-init : goal.loop-id-init
+loop-id-init c = listed_start c.args.ids.now c.args.kinds.now c.args.marks.now c.args.feedback_ids.now
 
-pub loop-i-preserved : goal.loop-i-preserved
-loop-i-preserved c = elim c.if-is_listed.branch [
-  | then-is_listed w ↦ rw (w.feedback_ids-is, w.count-is) (listed_more c.args.ids.now c.args.kinds.now c.args.marks.now c.args.feedback_ids.now c.loop-i.i c.loop-i.count c.loop-i.feedback_ids true (sym w.if-is_listed.true ∙ c.is_listed.ensures) (omega (arith, c.requires.room)) c.loop-i.invariant)
-  | else-is_listed w ↦ rw (w.feedback_ids-is, w.count-is) (listed_more c.args.ids.now c.args.kinds.now c.args.marks.now c.args.feedback_ids.now c.loop-i.i c.loop-i.count c.loop-i.feedback_ids false (sym w.if-is_listed.false ∙ c.is_listed.ensures) (omega (arith, c.requires.room)) c.loop-i.invariant)
-]
+pub loop-id-preserved-then-is_listed : goal.loop-id-preserved-then-is_listed
+loop-id-preserved-then-is_listed c =
+    let t = turn c.args.ids.now c.args.kinds.now c.args.marks.now c.requires.kinds_length c.requires.marks_room _ _ c.next.new.self (cc) (cc) (cc) c.loop-id.yielded c.loop-id.yielded_by _ _ c.in-Some.is c.next.ensures.steps in
+    rw (length-append c.loop-id.yielded, t.1) (listed_more c.args.ids.now c.args.kinds.now c.args.marks.now c.args.feedback_ids.now (length c.loop-id.yielded) c.loop-id.count c.loop-id.feedback_ids true (rw (t.2, t.3) at (sym c.if-is_listed.true ∙ c.is_listed.ensures)) (omega (arith, c.requires.room)) c.loop-id.invariant)
+
+pub loop-id-preserved : goal.loop-id-preserved
+loop-id-preserved c =
+    let t = turn c.args.ids.now c.args.kinds.now c.args.marks.now c.requires.kinds_length c.requires.marks_room _ _ c.next.new.self (cc) (cc) (cc) c.loop-id.yielded c.loop-id.yielded_by _ _ c.in-Some.is c.next.ensures.steps in
+    rw (length-append c.loop-id.yielded) (listed_more c.args.ids.now c.args.kinds.now c.args.marks.now c.args.feedback_ids.now (length c.loop-id.yielded) c.loop-id.count c.loop-id.feedback_ids false (rw (t.2, t.3) at (sym c.if-is_listed.false ∙ c.is_listed.ensures)) (omega (arith, c.requires.room)) c.loop-id.invariant)

@@ -2,7 +2,7 @@
 use mathlib.Core.Path.{sym, ◌∙◌}
 use native.Mathlib.Omega.{arith}
 use lib.ListN.{length}
-use Rattle.rules.proofs.Filling.{filling-none, filling-more, filling-done}
+use Rattle.rules.proofs.Filling.{filling-none, filling-more}
 use Rattle.rules.proofs.Indices.{made-length}
 use Rattle.reasons.specs.Over.{position_delay}
 use Rattle.reasons.proofs.SumSteps.{column, delay-next}
@@ -13,6 +13,3 @@ loop-i-init c = filling-none (column c.args.kinds.now c.args.words.now) c.args.d
 
 pub loop-i-preserved : goal.loop-i-preserved
 loop-i-preserved c = filling-more (column c.args.kinds.now c.args.words.now) c.loop-i.delays c.loop-i.i c.component_delay.result c.loop-i.invariant (omega (arith, made-length (position_delay c.args.kinds.now c.args.words.now) (length c.args.kinds.now))) (delay-next c.args.kinds.now c.args.words.now c.loop-i.i (omega arith) ∙ sym c.component_delay.ensures)
-
-pub returns : goal.returns
-returns c = filling-done (column c.args.kinds.now c.args.words.now) c.loop-i.delays c.loop-i.i c.loop-i.invariant (omega (arith, made-length (position_delay c.args.kinds.now c.args.words.now) (length c.args.kinds.now)))

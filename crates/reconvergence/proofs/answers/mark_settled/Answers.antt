@@ -8,4 +8,4 @@ pub loop-v-init : goal.loop-v-init
 loop-v-init c = filling-none _ _ (c.requires ∙ sym (marks-length _))
 
 pub loop-v-preserved : goal.loop-v-preserved
-loop-v-preserved c = mark-more _ _ _ c.loop-v.invariant c.loop-v-test.true
+loop-v-preserved c = rw c.from.ensures (mark-more _ _ _ c.loop-v.invariant c.loop-v-test.true)

@@ -6,7 +6,7 @@ use Rattle.reconvergence.proofs.Whole.{timed}
 use Rattle.reconvergence.proofs.pass.find_unequal.Goals as goal
 
 pub sum_paths-requires : goal.sum_paths-requires
-sum_paths-requires c = (rw (take_at _ _ _ (c.index_edges.auto.next ∙ length-take-le _ _ c.requires.links)) (timed c.requires c.index_edges.auto.head c.index_edges.ensures), c.requires.lent)
+sum_paths-requires c = (rw (take_at _ _ _ (c.index_edges.auto.head ∙ length-take-le _ _ c.requires.heads), take_at _ _ _ (c.index_edges.auto.next ∙ length-take-le _ _ c.requires.links)) (timed c.requires c.index_edges.auto.head c.index_edges.ensures), c.requires.lent)
 
 pub list_unequal-requires : goal.list_unequal-requires
 list_unequal-requires c = list-fits c.sum_paths.ensures.summed _ c.requires.positions _ c.requires.room

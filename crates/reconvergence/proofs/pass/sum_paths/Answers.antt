@@ -1,4 +1,5 @@
 -- `sum_paths` starts the lists and takes the nodes. Assumes nothing.
+use native.Mathlib.Omega.{arith}
 use Rattle.reconvergence.proofs.Ending.{summed-edges}
 use Rattle.reconvergence.proofs.Keeping.{timed-kept}
 use Rattle.reconvergence.proofs.Starting.{started}
@@ -8,4 +9,4 @@ pub take_all-requires : goal.take_all-requires
 take_all-requires c = (timed-kept c.args.edges.now c.args.delays.now c.requires.0 c.start-waiting.ensures.kept, started c.requires.0 c.start-waiting.ensures.started)
 
 pub returns-clause-summed : goal.returns-clause-summed
-returns-clause-summed c = summed-edges c.requires.0.edges c.take_all.ensures.taken
+returns-clause-summed c = let p = summed-edges c.requires.0.edges c.take_all.ensures.taken in grind (arith, p)

@@ -9,7 +9,7 @@ pub returns : goal.returns
 returns c =
     let s = c.self.inside in
     let z : ComponentsSized s = record { ids = search rules; kinds = search rules; delays = search rules; locked = search rules; xs = search rules; ys = search rules; zs = search rules; len = search rules } in
-    let below : s.len < 2048 = omega (arith, components_counted s z.ids z.len, ap length c.self.view_is) in
+    let below : s.len < 1927 = omega (arith, components_counted s z.ids z.len, ap length c.self.view_is) in
     let fx : FitsSigned w32 c.args.row.x = search rules in
     let fy : FitsSigned w32 c.args.row.y = search rules in
     let fz : FitsSigned w32 c.args.row.z = search rules in

@@ -1,5 +1,5 @@
 -- The contracts before the i-th are in range and rise. Assumes nothing.
-use Rattle.std.proofs.Common.{◌∙◌, ap}
+use Rattle.std.proofs.Common.{Err, ap, ◌∙◌}
 use Rattle.rules.specs.Lent.{contracts_lent}
 use Rattle.rules.specs.Traces.{contract_out_of_range, contract_tests}
 use Rattle.rules.proofs.FirstRefusal.{rows_start}
@@ -11,7 +11,8 @@ loop-i-init c = rows_start (contract_tests (contracts_lent c.args.self.lent.cont
 
 pub returns-then-out_of_range : goal.returns-then-out_of_range
 returns-then-out_of_range c =
-    contract-out (contracts_lent c.args.self.lent.contracts) c.loop-i.i c.loop-i.invariant (c.out_of_range.ensures ∙ ap contract_out_of_range c.contract.ensures) c.loop-i-test.true c.if-out_of_range.true
+    ap Err c.out_of_range-then-out_of_range.ensures
+    ∙ contract-out (contracts_lent c.args.self.lent.contracts) c.loop-i.i c.loop-i.invariant (c.out_of_range.ensures ∙ ap contract_out_of_range c.contract.ensures) c.loop-i-test.true c.if-out_of_range.true
 
 pub returns-then-not_above_before : goal.returns-then-not_above_before
 returns-then-not_above_before c =

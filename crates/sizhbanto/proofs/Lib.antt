@@ -1,2 +1,0 @@
--- Lists to work in that a call cuts to the nodes:
-pub mod Cut
