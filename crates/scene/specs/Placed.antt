@@ -1,5 +1,5 @@
 -- What placing a scene gives. Assumes nothing: these are definitions.
-use Rattle.std.specs.Prelude.{Result, IfOk, List, ◌≡◌, ℕ, ◌≤◌, length}
+use Rattle.std.specs.Prelude.{Result, IfOk, List, ◌≡◌, ℕ, ◌≤◌, length, replicate}
 use Rattle.rules.specs.Ordered.{ordered}
 use Rattle.rules.specs.Graph.{edges_between}
 use Rattle.rules.specs.Scene.{ConnectionLists, edges_of, connections_of}
@@ -7,7 +7,17 @@ use Rattle.rules.specs.Refusals.{Checked, scene_limits}
 use Rattle.rules.specs.Positions.{Positioned}
 use Rattle.rules.specs.declared.answers.Refusal.{Refusal}
 use Rattle.scene.specs.declared.place.Placed.{Placed}
+use Rattle.scene.specs.declared.place.SceneRoom.{SceneRoom}
 use Rattle.scene.specs.Ends.{checked_of}
+use Rattle.scene.specs.Lent.{PositionLists, position_lists}
+
+-- the lists of a room
+abbrev pub room_lists : SceneRoom → PositionLists
+room_lists s = position_lists s.order s.starts s.stops
+
+-- those of a new one
+abbrev pub blank_lists : PositionLists
+blank_lists = position_lists (replicate scene_limits.components 0) (replicate scene_limits.connections 0) (replicate scene_limits.connections 0)
 
 -- the edges over positions and the positions of the ids in order, of a scene within the limits
 pub record PlacedRows (ids : List ℕ) (m : ConnectionLists) (p : Placed) : Type 0 where

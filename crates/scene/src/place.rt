@@ -1,9 +1,9 @@
 // Room for the positions of every scene within the limits, and the positions of the scene that is placed in it.
-ghost use Rattle.std.specs.Prelude.{◌≡◌, replicate};
+ghost use Rattle.std.specs.Prelude.{◌≡◌};
 ghost use Rattle.rules.specs.Lent.{components_lent, connections_lent};
 ghost use Rattle.rules.specs.Refusals.{check_scene, scene_limits};
 ghost use Rattle.scene.specs.Lent.{outputs_lent};
-ghost use Rattle.scene.specs.Placed.{ScenePlaced};
+ghost use Rattle.scene.specs.Placed.{ScenePlaced, room_lists, blank_lists};
 
 use crate::index::index_rows;
 use crate::sizes::check_sizes;
@@ -29,9 +29,7 @@ pub struct Placed<'a> {
 
 impl SceneRoom {
     pub fn new() -> Self
-        ensures order { result.order ≡ replicate scene_limits.components 0 }
-        ensures starts { result.starts ≡ replicate scene_limits.connections 0 }
-        ensures stops { result.stops ≡ replicate scene_limits.connections 0 }
+        ensures { room_lists result ≡ blank_lists }
     {
         SceneRoom {
             order: [0; MAX_COMPONENTS],
