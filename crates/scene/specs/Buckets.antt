@@ -1,15 +1,15 @@
 -- Positions by buckets of their ids. Assumes nothing: these are definitions.
 use mathlib.Core.List.{List, map, Memᴰ}
-use Rattle.std.specs.Prelude.{◌≡◌, ℕ, ◌%◌, ◌<◌, ◌≤◌, length}
+use Rattle.std.specs.Prelude.{◌≡◌, ℕ, ◌*◌, ◌^◌, ◌/◌, ◌%◌, ◌<◌, ◌≤◌, length}
 use Rattle.rules.specs.Ordered.{key_at, ordered}
 use Rattle.rules.specs.Refusals.{scene_limits}
 use Rattle.graph.specs.Adjacency.{Indexed, chain}
 
 abbrev pub bucket_count : ℕ
-bucket_count = 1021
+bucket_count = 2048
 
 abbrev pub bucket_of : ℕ → ℕ
-bucket_of id = id % bucket_count
+bucket_of id = id * 11400714819323198485 % 2 ^ 64 / 2 ^ 53
 
 -- the ids in order, and linked by their buckets
 pub record IdIndex (ids order head next : List ℕ) : Type 0 where

@@ -10,17 +10,20 @@ use graph::chain::Chain;
 use order::search::find_position;
 use rules::limits::MAX_COMPONENTS;
 
-// A prime near twice the most components that a scene may have.
-pub(crate) const BUCKETS: usize = 1021;
+// Four times the most components that a scene may have.
+pub(crate) const BUCKETS: usize = 2048;
+
+// 2^64 by the golden ratio, and odd: the upper bits of its multiples spread, of ids in a row too.
+const SPREAD: u64 = 0x9E37_79B9_7F4A_7C15;
 
 // How many ids of a bucket are compared after its first, before the ordered ids are searched.
 const PROBES: usize = 8;
 
-// links has a remainder of its own, by another prime.
+// The upper 11 bits of a multiple of the id.
 fn bucket_of(id: u64) -> usize
     ensures { result ≡ bucket_of id }
 {
-    (id % BUCKETS as u64) as usize
+    (id.wrapping_mul(SPREAD) >> 53) as usize
 }
 
 // Writes the bucket of each id.
@@ -57,6 +60,7 @@ pub(crate) struct IndexedIds<'a> {
 
 impl IndexedIds<'_> {
     // The first position of an id, or that no position has it. Most ids are the first of their bucket.
+    #[inline(always)]
     pub(crate) fn find(&self, id: u64) -> Option<usize>
         ensures { result ≡ position_of self.now.ids.now id }
     {
@@ -71,6 +75,7 @@ impl IndexedIds<'_> {
     }
 
     // The same, where no position before from in the id's bucket has it.
+    #[inline(never)]
     fn find_chained(&self, id: u64, from: usize) -> Option<usize>
         requires { Ahead self.now.ids.now self.now.next.now id from }
         ensures { result ≡ position_of self.now.ids.now id }

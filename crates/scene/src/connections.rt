@@ -16,6 +16,7 @@ pub(crate) struct Ends {
 }
 
 // Tests one connection, and looks its ends up where it is an edge and no support.
+#[inline(always)]
 fn look_up(
     index: &IndexedIds<'_>,
     source: u64,
