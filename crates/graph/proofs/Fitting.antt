@@ -1,14 +1,16 @@
 -- The tests of the lists' shapes, one by one. Assumes nothing.
 use mathlib.Core.Bool.{Bool, true, false, not, ◌&&◌, ◌||◌}
 use mathlib.Core.List.{List, [], ◌∷◌}
-use mathlib.Core.Path.{◌≡◌, refl}
+use mathlib.Core.Path.{◌≡◌, refl, sym, ap, ap₂, ◌∙◌}
 use Prim.Native.Nat.{ℕ, ◌≤◌}
 use native.Mathlib.Omega.{arith}
 use borrow.Author.Tests.{eq-eqb, ne_eqb, eqb-true, leb-true, leb-false, lt-leb, le-ltb, lt-ltb}
 use lib.Dec.{leb, ltb, eqb}
-use lib.ListN.{length, get_or}
+use lib.ListN.{length, get_or, take, drop}
 use lib.Seq.{length-take-le}
 use Rattle.std.specs.List.{list_all}
+use Rattle.std.proofs.lemmas.List.{take-append-drop}
+use Rattle.std.proofs.lemmas.List.Folds.{list_all-append}
 use Rattle.rules.specs.Lists.{any}
 use Rattle.rules.proofs.Lists.{both_true}
 use Rattle.rules.proofs.Indices.{none-bad, each-good}
@@ -34,6 +36,19 @@ ends-listed n (e ∷ ends) = go (leb n e) refl (ends-listed n ends)
     go : (b : Bool) → leb n e ≡ b → list_all (λ e. ltb e n) ends ≡ not (any (leb n) ends) → (ltb e n && list_all (λ e. ltb e n) ends) ≡ not (b || any (leb n) ends)
     go true t h = rw (le-ltb e n (leb-true n e t)) refl
     go false t h = rw (lt-ltb e n (leb-false n e t)) h
+
+-- where the first k pass, the others decide
+module _ (n k : ℕ) (ends : List ℕ) where
+  split : ends_below n ends ≡ (ends_below n (take k ends) && ends_below n (drop k ends))
+  split =
+      sym (ends-listed n ends) ∙ ap (list_all (λ e. ltb e n)) (sym (take-append-drop k ends)) ∙ list_all-append (λ e. ltb e n) (take k ends) (drop k ends)
+      ∙ ap₂ (λ x y. x && y) (ends-listed n (take k ends)) (ends-listed n (drop k ends))
+
+  pub front-fails : ends_below n (take k ends) ≡ false → ends_below n ends ≡ false
+  front-fails e = split ∙ ap (λ x. x && ends_below n (drop k ends)) e
+
+  pub front-passes : ends_below n (take k ends) ≡ true → ends_below n ends ≡ ends_below n (drop k ends)
+  front-passes e = split ∙ ap (λ x. x && ends_below n (drop k ends)) e
 
 -- what the tests say when all pass
 pub record Fitted (sources sinks : List ℕ) (n head next order group : ℕ) : Type 0 where

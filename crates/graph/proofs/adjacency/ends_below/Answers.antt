@@ -1,11 +1,13 @@
--- `ends_below` tests every end. Assumes nothing.
-use Rattle.std.proofs.Common.{rules, tests, ◌∙◌, nat_lt}
-use Rattle.std.proofs.lemmas.Iterator.{YieldsList-from_slice}
-use Rattle.std.proofs.lemmas.Iterator.Search.{all_from_yields_List}
-use Rattle.graph.proofs.Fitting.{ends-listed}
+-- Each turn tests the next four. Assumes nothing.
+use Rattle.std.proofs.Common.{◌∙◌, sym, ap}
+use Rattle.graph.specs.Fits.{ends_below}
+use Rattle.graph.proofs.Fitting.{front-fails, front-passes}
 use Rattle.graph.proofs.adjacency.ends_below.Goals as goal
 
-pub returns : goal.returns
-returns c =
-    let a = c.args in
-    all_from_yields_List (λ end. nat_lt end a.n) _ _ _ c.all.ensures.ran (YieldsList-from_slice a.ends.now c.iter.ensures.rest) (λ x b q k. search (rules, tests)) ∙ ends-listed a.n a.ends.now
+pub returns-then-not-all_below : goal.returns-then-not-all_below
+returns-then-not-all_below c =
+    sym (sym c.loop-four.invariant ∙ front-fails c.args.n 4 c.loop-four.rest.now (ap (ends_below c.args.n) (sym c.in-Some.ensures.cases.0) ∙ sym c.all_below.ensures ∙ c.if-not-all_below.true))
+
+pub loop-four-preserved : goal.loop-four-preserved
+loop-four-preserved c =
+    ap (ends_below c.args.n) c.in-Some.ensures.cases.1 ∙ sym (front-passes c.args.n 4 c.loop-four.rest.now (ap (ends_below c.args.n) (sym c.in-Some.ensures.cases.0) ∙ sym c.all_below.ensures ∙ c.if-not-all_below.false)) ∙ c.loop-four.invariant
