@@ -1,5 +1,6 @@
 -- Facts that the proofs of the functions share:
 pub mod Sorting
+pub mod Checking
 pub mod Whole
 pub mod Searching
 pub mod RisingRow

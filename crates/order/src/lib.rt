@@ -2,6 +2,8 @@
 #![tactic(auto)]
 
 mod keys; // keys.rt: the key at a position
+mod arrange; // arrange.rt: a guess at their order
+mod check; // check.rt: whether a row is the ordered positions
 pub mod sort; // sort.rt: the positions of a list of keys, ordered by key and then by position
 pub mod search; // search.rt: the first position of a key
 pub mod rising; // rising.rt: whether keys rise along a row of positions
