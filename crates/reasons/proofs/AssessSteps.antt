@@ -1,13 +1,14 @@
 -- What the passes found, put together. Assumes nothing.
+use mathlib.Core.Bool.{cond}
 use mathlib.Core.List.{List, ◌++◌, map, flat_map, Memᴰ}
 use mathlib.Core.Path.{◌≡◌, sym, ap, ap₂, subst, ◌∙◌}
 use Prim.Native.Nat.{ℕ, ◌+◌, ◌*◌, ◌<◌, ◌≤◌}
 use native.Mathlib.Nat.{zero-add}
 use native.Mathlib.Omega.{arith}
-use lib.ListN.{length, get_or, replicate, length-append, length-map, length-replicate}
+use lib.ListN.{length, get_or, take, replicate, length-append, length-map, length-replicate}
 use Rattle.rules.specs.Lists.{keep, indices, written}
 use Rattle.rules.specs.Ordered.{key_at}
-use Rattle.rules.specs.Graph.{Edge, edges_between}
+use Rattle.rules.specs.Graph.{Edge, edges_between, settled}
 use Rattle.rules.specs.Paths.{smallest_sum, largest_sum}
 use Rattle.rules.specs.Labels.{low_sum, high_sum}
 use Rattle.rules.specs.Reasons.{Reason, unequal_reconvergent_delay, feedback_reason, own_reason, unequal_at}
@@ -16,10 +17,11 @@ use Rattle.rules.specs.declared.answers.TemporalScope.{TemporalScope}
 use Rattle.rules.specs.declared.answers.BehaviorPattern.{BehaviorPattern}
 use Rattle.rules.proofs.Lists.{keep_out, map_same, flat-map}
 use Rattle.rules.proofs.Indices.{at_mem, mem-at, made-length, made_at}
-use Rattle.rules.proofs.Written.{from-length, written_at}
+use Rattle.rules.proofs.Written.{from-length, written-front, written_at}
 use Rattle.laws.proofs.Room.{keep-fewer, loop-one}
 use Rattle.reasons.specs.Assessed.{Assessable, ReasonsFound}
-use Rattle.reasons.specs.Listing.{shared_ids}
+use Rattle.reconvergence.specs.Fits.{settled_marks}
+use Rattle.reasons.specs.Listing.{shared_ids, Flagged}
 use Rattle.reasons.specs.Over.{position_delay, unequal_reason_over, temporal_over, unequal_over, reasons_over, labels_over, scope_of}
 use Rattle.reasons.specs.Pattern.{shared_pattern}
 use Rattle.reasons.specs.Rows.{Columns, ReasonRoom, ReasonsWritten, ReasonsListed, own_reasons, unequal_row, UnequalAsked}
@@ -53,6 +55,17 @@ module _ (l : ComponentLists) (starts stops order : List ℕ) (asked : Assessabl
 
     pub labels-long : (length l.ids ≤ length labels'.settled) × (length l.ids ≤ length labels'.lows) × (length l.ids ≤ length labels'.highs)
     labels-long = (made_long _ labels.settled labels'.settled room.0 sums.settled_marked, made_long _ labels.lows labels'.lows room.1 sums.smallest_found, made_long _ labels.highs labels'.highs room.2 sums.largest_found)
+
+    -- the flags of list 8 tell which components are settled
+    pub flagged : (marks : List ℕ) → take (length l.ids) marks ≡ replicate (length l.ids) 0 → Flagged starts stops (length l.ids) labels'.settled marks
+    unfolding settled_marks
+    flagged marks e =
+        let old = rw asked.kinds_length at sums.settled_marked in
+        record {
+          flags_room = labels-long.0;
+          flags = ap (take (length l.ids)) old ∙ written-front labels.settled (map (λ v. cond (settled es v) 1 0) (indices (length l.ids))) (length l.ids) (made-length (λ v. cond (settled es v) 1 0) (length l.ids));
+          unmarked = e;
+        }
 
     listed_below : (v : ℕ) → Memᴰ v (keep (unequal_at es d d) order) → v < length l.ids
     listed_below v m = let r = mem-at 0 (keep_out (unequal_at es d d) order m).0 in omega (arith, asked.positions r.0 r.1, r.2)

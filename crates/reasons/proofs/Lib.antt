@@ -2,6 +2,7 @@
 pub mod Fitting
 pub mod SideBySide
 pub mod ListingSteps
+pub mod AllSettled
 pub mod PatternSteps
 pub mod OwnReasons
 pub mod RowSteps

@@ -1,11 +1,12 @@
 -- What listing the marked components needs and gives. Assumes nothing: these are definitions.
-use Rattle.std.specs.Prelude.{Bool, not, ◌&&◌, List, map, ◌≡◌, ℕ, ◌≤◌, eqb, length, get_or}
+use Rattle.std.specs.Prelude.{Bool, not, ◌&&◌, List, map, ◌≡◌, ℕ, ◌≤◌, eqb, length, get_or, take, replicate}
 use Rattle.rules.specs.Graph.{edges_between, shared_marks}
 use Rattle.rules.specs.Kinds.{kind_row}
 use Rattle.rules.specs.Lists.{keep, indices}
 use Rattle.rules.specs.Reasons.{passive}
 use Rattle.rules.specs.Positions.{Inside}
 use Rattle.rules.specs.Refusals.{scene_limits}
+use Rattle.reconvergence.specs.Fits.{settled_marks}
 
 -- the component is neither Wire nor Conductor, and has a mark
 abbrev pub is_listed : (kinds marks : List ℕ) → ℕ → Bool
@@ -37,3 +38,9 @@ pub record Linked (starts stops : List ℕ) (n : ℕ) : Type 0 where
   pub nodes_few : n ≤ scene_limits.components
   pub edges_few : length starts ≤ scene_limits.connections
   pub inside : Inside n (edges_between starts stops)
+
+-- flags tell which of n positions are settled, and no mark is set
+pub record Flagged (starts stops : List ℕ) (n : ℕ) (settles marks : List ℕ) : Type 0 where
+  pub flags_room : n ≤ length settles
+  pub flags : take n settles ≡ settled_marks (edges_between starts stops) n
+  pub unmarked : take n marks ≡ replicate n 0

@@ -5,13 +5,14 @@ ghost use Rattle.rules.specs.Lists.{written};
 ghost use Rattle.rules.specs.Graph.{edges_between, shared_marks};
 ghost use Rattle.rules.specs.Reasons.{passive};
 ghost use Rattle.reasons.specs.Fits.{feedback_fits};
-ghost use Rattle.reasons.specs.Listing.{Linked, Marked, listed_ids, shared_ids};
+ghost use Rattle.reasons.specs.Listing.{Linked, Marked, Flagged, listed_ids, shared_ids};
 ghost use Rattle.reasons.specs.FeedbackListed.{FeedbackIds};
 
 use crate::fits::edges_fit;
 use graph::edges::{Edges, GroupRoom};
 use graph::mark_shared_components;
 use rules::kinds::TemporalNodeKind;
+use rules::lent::LabelLists;
 use rules::limits::{MAX_COMPONENTS, MAX_CONNECTIONS};
 use tables::kinds::kind_row;
 
@@ -53,6 +54,28 @@ fn list_within(ids: &[u64], kinds: &[u8], edges: &Edges<'_>, feedback_ids: &mut 
 {
     let mut marks = [0u8; MAX_COMPONENTS];
     list_shared(ids, kinds, edges, &mut marks, feedback_ids)
+}
+
+// The same as list_shared, where flags tell which components are settled. If all are, none is on a cycle, and so none shares its
+// strongly connected component with another: nothing is listed or marked, and no pass over the edges is made.
+pub(crate) fn list_flagged(
+    ids: &[u64],
+    kinds: &[u8],
+    edges: &Edges<'_>,
+    labels: &LabelLists<'_>,
+    marks: &mut [u8],
+    feedback_ids: &mut [u64],
+) -> usize
+    requires { Linked edges.now.sources.now edges.now.sinks.now (length ids.now) × Marked ids.now kinds.now marks.old feedback_ids.old × Flagged edges.now.sources.now edges.now.sinks.now (length ids.now) labels.now.settled.now marks.old }
+    ensures ids { feedback_ids.new ≡ written feedback_ids.old (shared_ids ids.now kinds.now edges.now.sources.now edges.now.sinks.now) }
+    ensures counted { result ≡ length (shared_ids ids.now kinds.now edges.now.sources.now edges.now.sinks.now) }
+    ensures marked { take (length ids.now) marks.new ≡ shared_marks (edges_between edges.now.sources.now edges.now.sinks.now) (length ids.now) }
+{
+    if labels.settled[..ids.len()].contains(&0) {
+        list_shared(ids, kinds, edges, marks, feedback_ids)
+    } else {
+        0
+    }
 }
 
 // Marks the positions in the front of marks, then lists. Ids and kinds come without the other columns, since the call for

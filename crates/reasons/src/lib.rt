@@ -6,7 +6,7 @@ ghost use Rattle.rules.specs.Lent.{SameReasons, SameLabels, components_lent};
 ghost use Rattle.reasons.specs.Assessed.{Assessable, OutputRoom, ReasonsFound, ReasonsCall};
 ghost use Rattle.reasons.specs.Lent.{reasons_lent, labels_lent};
 
-use crate::feedback::list_shared;
+use crate::feedback::list_flagged;
 use crate::fits::reasons_fit;
 use crate::labels::{clear_unsettled, sum_paths};
 use crate::pattern::classify_behavior_patterns;
@@ -80,7 +80,7 @@ fn assess_within(
     let mut marks = [0u8; MAX_COMPONENTS];
     let Components { ids, kinds, .. } = *components;
     let unequal = sum_paths(components, edges, order, labels, &mut room);
-    let feedback = list_shared(ids, kinds, edges, &mut marks, feedback_ids);
+    let feedback = list_flagged(ids, kinds, edges, labels, &mut marks, feedback_ids);
     let temporal = list_temporal_reasons(components, feedback, reasons);
     let all = list_unequal_reasons(ids, labels, unequal, temporal, reasons);
     clear_unsettled(labels, ids.len());
