@@ -6,10 +6,10 @@ use Rattle.rules.specs.Refusals.{scene_limits}
 use Rattle.graph.specs.Adjacency.{Indexed, chain}
 
 abbrev pub bucket_count : ℕ
-bucket_count = 2048
+bucket_count = 4096
 
 abbrev pub bucket_of : ℕ → ℕ
-bucket_of id = id * 11400714819323198485 % 2 ^ 64 / 2 ^ 53
+bucket_of id = id * 11400714819323198485 % 2 ^ 64 / 2 ^ 52
 
 -- the ids in order, and linked by their buckets
 pub record IdIndex (ids order head next : List ℕ) : Type 0 where

@@ -10,8 +10,9 @@ use graph::chain::Chain;
 use order::search::find_position;
 use rules::limits::MAX_COMPONENTS;
 
-// Four times the most components that a scene may have.
-pub(crate) const BUCKETS: usize = 2048;
+// A power of two, eight times the most components that a scene may have: of ids that spread, one in seventeen is not the first of
+// its bucket.
+pub(crate) const BUCKETS: usize = 4096;
 
 // 2^64 by the golden ratio, and odd: the upper bits of its multiples spread, of ids in a row too.
 const SPREAD: u64 = 0x9E37_79B9_7F4A_7C15;
@@ -19,11 +20,11 @@ const SPREAD: u64 = 0x9E37_79B9_7F4A_7C15;
 // How many ids of a bucket are compared after its first, before the ordered ids are searched.
 const PROBES: usize = 8;
 
-// The upper 11 bits of a multiple of the id.
+// The upper 12 bits of a multiple of the id.
 fn bucket_of(id: u64) -> usize
     ensures { result ≡ bucket_of id }
 {
-    (id.wrapping_mul(SPREAD) >> 53) as usize
+    (id.wrapping_mul(SPREAD) >> 52) as usize
 }
 
 // Writes the bucket of each id.
