@@ -1,5 +1,0 @@
--- What the call promises:
-pub mod Linked
--- what its parts promise each other:
-pub mod Numbered
-pub mod Numbering
