@@ -7,7 +7,7 @@ use mathlib.Core.List.{List, [], ◌∷◌, ◌++◌, map, Memᴰ}
 use Prim.Native.Nat.{ℕ, suc, ◌+◌, ◌<◌, ◌≤◌, min, max}
 use native.Mathlib.Omega.{arith}
 use native.Mathlib.Numerals.{add-one}
-use lib.ListN.{length, get_or, take, set}
+use lib.ListN.{length, get_or, take}
 use lib.Seq.{get_or-take, take-set-le}
 use lib.Dec.{eqb, eqb→eq}
 use borrow.Author.Tests.{eq-eqb, eqb-true}
@@ -151,18 +151,13 @@ module _ {es : List Edge} {low high : ℕ → ℕ} {n : ℕ} {next sinks incomin
       passed = (u ⟶ get_or sinks e 0) ∷ M.passed;
       state = relax-more M.state u (get_or sinks e 0) b some_left sum (B.least _) (B.most _) r;
       after = rw r.count (more (eqb (key_at left (get_or sinks e 0)) 1));
-      kept = rw r.placed (same (eqb (key_at left (get_or sinks e 0)) 1) ∙ M.kept);
+      kept = rw r.placed (take-set-le (suc i) queue c (get_or sinks e 0) M.after ∙ M.kept);
       proper = M.proper;
       split = λ p. omega (arith, M.split p, ahead p, count-cons p (u ⟶ get_or sinks e 0) M.passed);
     }
       where
-        more : (t : Bool) → i < cond t (c + 1) c
-        more true = omega (arith, M.after)
-        more false = M.after
-
-        same : (t : Bool) → take (suc i) (cond t (set queue c (get_or sinks e 0)) queue) ≡ take (suc i) queue
-        same true = take-set-le (suc i) queue c (get_or sinks e 0) M.after
-        same false = refl
+        more : (t : Bool) → i < c + cond t 1 0
+        more t = omega (arith, M.after)
 
   pub leaving-end : length next ≤ e → Taking es low high n incoming left smallest largest queue (i + 1) c
   leaving-end l = rw add-one (record {

@@ -56,17 +56,17 @@ pub record TimedGraph (sources sinks head next low high : List ℕ) : Type 0 whe
   pub heads : length low ≤ length head
   pub highs : length high ≡ length low
 
--- the first value stands as it is, a later one is weighed against the one before
-abbrev pub chosen : (ℕ → ℕ → ℕ) → Bool → ℕ → ℕ → ℕ
-chosen f first old new = cond first new (f new old)
+-- the first smallest sum stands as it is, a later one is weighed against the one before
+abbrev pub least : (first : Bool) → (old new : ℕ) → ℕ
+least first old new = cond first new (min new old)
 
 -- one edge into v more is relaxed, which brings `sum`
 pub record Relaxed (incoming left smallest largest queue : List ℕ) (c v : ℕ) (sum : DelayRange) (left' smallest' largest' queue' : List ℕ) (c' : ℕ) : Type 0 where
   pub less : left' ≡ set left v (key_at left v - 1)
-  pub small : smallest' ≡ set smallest v (chosen min (eqb (key_at left v) (key_at incoming v)) (key_at smallest v) sum.minimum_redstone_ticks)
-  pub large : largest' ≡ set largest v (chosen max (eqb (key_at left v) (key_at incoming v)) (key_at largest v) sum.maximum_redstone_ticks)
-  pub placed : queue' ≡ cond (eqb (key_at left v) 1) (set queue c v) queue
-  pub count : c' ≡ cond (eqb (key_at left v) 1) (c + 1) c
+  pub small : smallest' ≡ set smallest v (least (eqb (key_at left v) (key_at incoming v)) (key_at smallest v) sum.minimum_redstone_ticks)
+  pub large : largest' ≡ set largest v (max sum.maximum_redstone_ticks (key_at largest v))
+  pub placed : queue' ≡ set queue c v
+  pub count : c' ≡ c + cond (eqb (key_at left v) 1) 1 0
 
 -- the two sums, or the two delays, of a node
 abbrev pub range_at : List ℕ → List ℕ → ℕ → DelayRange

@@ -50,8 +50,9 @@ impl Worklist<'_, '_, '_, '_> {
         }
     }
 
-    // Relaxes an edge into v that brings sum; with the last one v comes to wait. The first sum stands as it is: what the
-    // lists hold before it is no sum.
+    // Relaxes an edge into v that brings sum; with the last one v comes to wait. Which edge is the first or the last can't be
+    // foretold, so it is told by values and not by branches. The first smallest sum stands as it is: the 0 before it is no
+    // sum. No largest sum is below that 0. v is put in the next free place of queue every time, and counted the last time.
     fn relax(&mut self, v: usize, sum: DelayRange)
         requires { (v < length self.old.room.now.incoming.now) × (v < length self.old.room.now.left.now) × (v < length self.old.sums.now.smallest.now) × (v < length self.old.sums.now.largest.now) × (0 < key_at self.old.room.now.left.now v) × (self.old.waiting < length self.old.room.now.queue.now) }
         ensures same { SameWorklist self.old self.new }
@@ -59,17 +60,16 @@ impl Worklist<'_, '_, '_, '_> {
         ensures standing { Standing self.old self.new }
     {
         let waits = self.room.left[v];
-        if waits == self.room.incoming[v] {
-            self.sums.smallest[v] = sum.minimum_redstone_ticks;
-            self.sums.largest[v] = sum.maximum_redstone_ticks;
+        let smaller = sum.minimum_redstone_ticks.min(self.sums.smallest[v]);
+        let first = waits == self.room.incoming[v];
+        self.sums.smallest[v] = if first {
+            sum.minimum_redstone_ticks
         } else {
-            self.sums.smallest[v] = sum.minimum_redstone_ticks.min(self.sums.smallest[v]);
-            self.sums.largest[v] = sum.maximum_redstone_ticks.max(self.sums.largest[v]);
-        }
+            smaller
+        };
+        self.sums.largest[v] = sum.maximum_redstone_ticks.max(self.sums.largest[v]);
         self.room.left[v] = waits - 1;
-        if waits == 1 {
-            self.room.queue[self.waiting] = v;
-            self.waiting += 1;
-        }
+        self.room.queue[self.waiting] = v;
+        self.waiting += usize::from(waits == 1);
     }
 }
