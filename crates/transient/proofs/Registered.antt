@@ -1,19 +1,24 @@
 -- The contract of a component is the first that names it. Assumes nothing.
 use mathlib.Core.Bool.{Bool}
 use mathlib.Core.List.{List, [], ◌∷◌, map}
+use mathlib.Core.Logic.{⊎_elim}
 use mathlib.Core.Path.{◌≡◌, refl, sym, ap, subst, ◌∙◌}
-use Prim.Native.Nat.{ℕ, zero, suc, ◌<◌}
+use Prim.Native.Nat.{ℕ, zero, suc, ◌+◌, ◌<◌}
 use native.Mathlib.Omega.{arith}
 use lib.Dec.{T, eqb→eq}
 use lib.ListN.{length, get_or}
-use Rattle.std.specs.Prelude.{Option, Some, None}
+use Rattle.std.specs.Prelude.{Some, None}
 use Rattle.rules.specs.Lists.{keep}
 use Rattle.rules.specs.Ordered.{key_at, Rises}
 use Rattle.rules.specs.Verdicts.{Contract, ContractLists, contract_at, contracts_of, intent_of, for_component, design_intent}
 use Rattle.rules.proofs.Lists.{chosen, not_chosen, eq_test}
 use Rattle.rules.proofs.Indices.{made-length, made_at}
-use Rattle.rules.proofs.Ordering.{position→first, missing→none}
-use Rattle.order.specs.Searched.{SearchedRising}
+use Rattle.rules.proofs.Sums.{order}
+use Rattle.std.specs.List.Sorted.{IsNonDecreasingBy}
+use Rattle.std.proofs.Common.{add-one}
+use Rattle.std.proofs.lemmas.Grind.{get_or_default_zero}
+use Rattle.std.proofs.lemmas.List.Sorted.{IsNonDecreasingBy-from_all_adjacent}
+use Rattle.transient.specs.Sought.{SplitAt}
 
 -- The first entry that passes a test
 
@@ -50,17 +55,23 @@ module _ (l : ContractLists) (v : ℕ) where
   unfolding contracts_of
   count = made-length (contract_at l) (length l.components)
 
-  module _ {found : Option ℕ} (searched : SearchedRising l.components v found) (up : Rises l.components) where
-    pub registered : (p : ℕ) → found ≡ Some p → Some (intent_of (contract_at l p)) ≡ design_intent (contracts_of l) v
+  -- so many contracts have components below
+  module _ {p : ℕ} (split : SplitAt l.components v p) where
+    pub registered : p < length l.components → key_at l.components p ≡ v → Some (intent_of (contract_at l p)) ≡ design_intent (contracts_of l) v
     unfolding design_intent contract_at
-    registered p e =
-        let k = position→first l.components v p (sym (searched.first up) ∙ e) in
-        ap (λ c. Some (intent_of c)) (sym (component-at p k.inside))
-        ∙ first-kept (for_component v) (λ c. Some (intent_of c)) none None (contracts_of l) p (omega (arith, count, k.inside))
-        (λ q h t. k.none_earlier q h (there q (omega (arith, k.inside)) t)) (subst (λ c. T (for_component v c)) (sym (component-at p k.inside)) (eq_test k.has))
+    registered h has =
+        ap (λ c. Some (intent_of c)) (sym (component-at p h))
+        ∙ first-kept (for_component v) (λ c. Some (intent_of c)) none None (contracts_of l) p (omega (arith, count))
+        (λ q g t. omega (arith, split.below q g, there q (omega arith) t)) (subst (λ c. T (for_component v c)) (sym (component-at p h)) (eq_test has))
 
-    pub not-registered : found ≡ None → None ≡ design_intent (contracts_of l) v
-    unfolding design_intent
-    not-registered e =
-        none_kept (for_component v) (λ c. Some (intent_of c)) none None (contracts_of l)
-        (λ q h t. missing→none l.components v (sym (searched.first up) ∙ e) q (omega (arith, count)) (there q (omega (arith, count)) t))
+    module _ (up : Rises l.components) (missing : p < length l.components → key_at l.components p ≡ v → ⊥) where
+      nowhere : (q : ℕ) → q < length l.components → key_at l.components q ≡ v → ⊥
+      nowhere q h t = ⊎_elim (λ g. missing (omega arith) (omega (arith, split.next (omega arith), rise p q 0 g h, t))) (λ g. omega (arith, split.below q g, t)) (order p q)
+        where
+          rise : IsNonDecreasingBy (λ x. x) l.components
+          rise = IsNonDecreasingBy-from_all_adjacent (λ x. x) l.components (λ k d h. rw (get_or_default_zero l.components k d (omega arith), get_or_default_zero l.components (k + 1) d h, add-one) (omega (arith, up k (omega arith))))
+
+      pub not-registered : None ≡ design_intent (contracts_of l) v
+      unfolding design_intent
+      not-registered =
+          none_kept (for_component v) (λ c. Some (intent_of c)) none None (contracts_of l) (λ q h t. nowhere q (omega (arith, count)) (there q (omega (arith, count)) t))

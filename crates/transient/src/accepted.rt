@@ -4,9 +4,9 @@ ghost use Rattle.rules.specs.Codes.{unit_of};
 ghost use Rattle.rules.specs.Lent.{contracts_lent};
 ghost use Rattle.rules.specs.Ordered.{Rises};
 ghost use Rattle.rules.specs.Verdicts.{contracts_of, design_intent};
+ghost use Rattle.transient.specs.Sought.{AllBelow, SplitAt};
 
 use crate::aligned::AlignedTrace;
-use order::search::find_rising;
 use rules::transient::{SignalIntent, TraceTimeUnit};
 
 // Its unit is read, and the components of its contracts rise.
@@ -19,11 +19,29 @@ pub(crate) struct AcceptedTrace<'a> {
 }
 
 impl AcceptedTrace<'_> {
-    // The intent that is registered for a component, if one is.
-    pub(crate) fn design_intent(self, component: u64) -> Option<SignalIntent>
+    // How many contracts have components below this one, where the first ones, up to a place, are known to.
+    pub(crate) fn contracts_below(self, from: usize, component: u64) -> usize
+        requires { AllBelow self.aligned.lent.contracts.components.now component from }
+        ensures { SplitAt self.entry.aligned.lent.contracts.components.now component result }
+    {
+        let components = self.aligned.lent.contracts.components;
+        for i in from..components.len() {
+            if component <= components[i] {
+                return i;
+            }
+        }
+        components.len()
+    }
+
+    // The intent that is registered for a component, if one is, where so many contracts have components below it.
+    pub(crate) fn design_intent(self, below: usize, component: u64) -> Option<SignalIntent>
+        requires { SplitAt self.aligned.lent.contracts.components.now component below }
         ensures { result ≡ design_intent (contracts_of (contracts_lent self.entry.aligned.lent.contracts)) component }
     {
-        let i = find_rising(self.aligned.lent.contracts.components, component)?;
-        Some(self.aligned.contract(i).signal_intent())
+        let &found = self.aligned.lent.contracts.components.get(below)?;
+        if found != component {
+            return None;
+        }
+        Some(self.aligned.contract(below).signal_intent())
     }
 }

@@ -7,6 +7,7 @@ ghost use Rattle.rules.specs.Verdicts.{contracts_of, FindingsListed};
 ghost use Rattle.transient.specs.Judged.{finding_read, found, AllInside, FindingRoom, FindingsWritten};
 
 use crate::pulses::EventRow;
+use crate::sought::SoughtIntent;
 use rules::lent::Findings;
 use rules::transient::{Judgement, TransientVerdict};
 use verdicts::pulse::Pulse;
@@ -50,14 +51,17 @@ fn count_verdict(tallies: &mut [u64; 5], verdict: TransientVerdict)
 }
 
 impl EventRow<'_> {
-    // The finding of the pulse that begins at a place, by the contract of its component.
+    // The finding of the pulse that begins at a place, by the contract of its component, and what was sought for it.
     #[tactic(auto, unfolding(rules::specs::Windows::pulse_at, rules::specs::Verdicts::finding_of))]
-    fn finding(self, k: usize) -> Finding
-        requires { k + 2 < length self.positions.now }
-        ensures { finding_read result ≡ found (contracts_of (contracts_lent self.entry.trace.aligned.lent.contracts)) self.entry.trace.aligned.lent.unit (events_lent self.entry.trace.aligned.lent.events) self.entry.positions.now k }
+    fn finding(self, k: usize, sought: &mut SoughtIntent<'_>) -> Finding
+        requires place { k + 2 < length self.positions.now }
+        requires trace { sought.old.trace ≡ self.trace }
+        ensures finding { finding_read result ≡ found (contracts_of (contracts_lent self.entry.trace.aligned.lent.contracts)) self.entry.trace.aligned.lent.unit (events_lent self.entry.trace.aligned.lent.events) self.entry.positions.now k }
+        ensures trace { sought.new.trace ≡ self.entry.trace }
     {
         let pulse = self.window(k).pulse(self.trace.unit);
-        let judgement = pulse.classify(self.trace.design_intent(pulse.component));
+        *sought = sought.next(pulse.component);
+        let judgement = pulse.classify(sought.intent);
         Finding { pulse, judgement }
     }
 
@@ -74,8 +78,9 @@ impl EventRow<'_> {
         ensures written { FindingsWritten (contracts_of (contracts_lent self.entry.trace.aligned.lent.contracts)) self.entry.trace.aligned.lent.unit (events_lent self.entry.trace.aligned.lent.events) self.entry.positions.now places.now start (findings_lent findings.old) (findings_lent findings.new) result }
     {
         let mut tallies = [0u64; 5];
+        let mut sought = SoughtIntent::seek(self.trace, 0, 0);
         for (j, &k) in places.iter().enumerate() {
-            let finding = self.finding(k);
+            let finding = self.finding(k, &mut sought);
             finding.write(start + j, findings);
             count_verdict(&mut tallies, finding.judgement.verdict);
         }

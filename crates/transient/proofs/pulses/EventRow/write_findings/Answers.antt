@@ -6,6 +6,7 @@ use Rattle.transient.proofs.pulses.EventRow.write_findings.Goals as goal
 pub loop-j-init : goal.loop-j-init
 loop-j-init c = record {
   same = search rules;
+  sought = search rules;
   written = none-written c.args.self.trace.aligned.lent c.args.self.positions.now c.args.places.now c.args.start c.args.findings.now;
 }
 
@@ -16,13 +17,14 @@ write-requires c =
 pub count_verdict-requires : goal.count_verdict-requires
 count_verdict-requires c = omega (
   arith,
-  next-few c.args.self.trace.aligned.lent c.args.self.positions.now c.args.places.now c.args.start c.args.findings.now c.loop-j.j (omega arith) c.loop-j.invariant.written c.finding-finding.ensures,
+  next-few c.args.self.trace.aligned.lent c.args.self.positions.now c.args.places.now c.args.start c.args.findings.now c.loop-j.j (omega arith) c.loop-j.invariant.written c.finding-finding.ensures.finding,
 )
 
 pub loop-j-preserved : goal.loop-j-preserved
 loop-j-preserved c = record {
   same = search rules;
+  sought = search rules;
   written =
-      next-written c.args.self.trace.aligned.lent c.args.self.positions.now c.args.places.now c.args.start c.args.findings.now c.loop-j.j (omega arith) c.loop-j.invariant.written c.finding-finding.ensures
+      next-written c.args.self.trace.aligned.lent c.args.self.positions.now c.args.places.now c.args.start c.args.findings.now c.loop-j.j (omega arith) c.loop-j.invariant.written c.finding-finding.ensures.finding
       c.requires.room c.write.ensures.listed c.count_verdict.ensures;
 }
