@@ -8,7 +8,7 @@ ghost use Rattle.rules.specs.Traces.{trace_limits, TraceCall, TraceCallFrom};
 use crate::check::check_trace;
 use crate::pulses::EventRow;
 use lengths::shortest;
-use order::sort::sort_positions;
+use order::repeated::sort_repeated;
 use rules::answers::Refusal;
 use rules::lent::{Findings, Trace};
 use rules::limits::MAX_EVENTS;
@@ -49,7 +49,7 @@ pub fn assess_from(
     let mut order = [0usize; MAX_EVENTS];
     let mut places = [0usize; MAX_EVENTS];
     let events = trace.events.components;
-    sort_positions(events, &mut order, &mut places);
+    sort_repeated(events, &mut order, &mut places);
     let row = EventRow {
         trace: accepted,
         positions: &order[..events.len()],

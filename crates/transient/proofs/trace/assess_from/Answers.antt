@@ -10,25 +10,25 @@ returns-in_err-accepted-clause-assessed c =
     rw e (refused-call c.args.start c.args.trace.now c.args.findings.now c.findings_room.ensures c.in_err-accepted.ensures.checked)
 
 pub slice_bounds-order-end : goal.slice_bounds-order-end
-slice_bounds-order-end c = omega (arith, accepted-few c.args.start c.args.trace.now c.args.findings.now c.findings_room.ensures c.in_ok-accepted.ensures.checked, c.sort_positions.auto.order)
+slice_bounds-order-end c = omega (arith, accepted-few c.args.start c.args.trace.now c.args.findings.now c.findings_room.ensures c.in_ok-accepted.ensures.checked, c.sort_repeated.auto.order)
 
 pub slice_bounds-row-end : goal.slice_bounds-row-end
 slice_bounds-row-end c =
     let few = accepted-few c.args.start c.args.trace.now c.args.findings.now c.findings_room.ensures c.in_ok-accepted.ensures.checked in
-    sym (length-take-le (length c.args.trace.now.events.components.now) _ (omega (arith, few, c.sort_positions.auto.order)))
+    sym (length-take-le (length c.args.trace.now.events.components.now) _ (omega (arith, few, c.sort_repeated.auto.order)))
 
 pub invariant_of-row : goal.invariant_of-row
-invariant_of-row c = record { inside = row-inside c.args.start c.args.trace.now c.args.findings.now c.findings_room.ensures c.in_ok-accepted.ensures.checked c.in_ok-accepted.ensures.trace c.sort_positions.ensures refl refl }
+invariant_of-row c = record { inside = row-inside c.args.start c.args.trace.now c.args.findings.now c.findings_room.ensures c.in_ok-accepted.ensures.checked c.in_ok-accepted.ensures.trace c.sort_repeated.ensures refl refl }
 
 pub write_findings-tallies-requires-clause-places : goal.write_findings-tallies-requires-clause-places
 write_findings-tallies-requires-clause-places c =
-    found-inside c.args.start c.args.trace.now c.args.findings.now c.findings_room.ensures c.in_ok-accepted.ensures.checked c.in_ok-accepted.ensures.trace c.sort_positions.ensures refl refl c.observe_pulses-found.ensures
+    found-inside c.args.start c.args.trace.now c.args.findings.now c.findings_room.ensures c.in_ok-accepted.ensures.checked c.in_ok-accepted.ensures.trace c.sort_repeated.ensures refl refl c.observe_pulses-found.ensures
 
 pub write_findings-tallies-requires-clause-room : goal.write_findings-tallies-requires-clause-room
 write_findings-tallies-requires-clause-room c =
-    found-room c.args.start c.args.trace.now c.args.findings.now c.findings_room.ensures c.in_ok-accepted.ensures.checked c.in_ok-accepted.ensures.trace c.sort_positions.ensures refl refl c.observe_pulses-found.ensures
+    found-room c.args.start c.args.trace.now c.args.findings.now c.findings_room.ensures c.in_ok-accepted.ensures.checked c.in_ok-accepted.ensures.trace c.sort_repeated.ensures refl refl c.observe_pulses-found.ensures
 
 pub returns-clause-assessed : goal.returns-clause-assessed
 returns-clause-assessed c =
-    accepted-call c.args.start c.args.trace.now c.args.findings.now c.findings_room.ensures c.in_ok-accepted.ensures.checked c.in_ok-accepted.ensures.trace c.sort_positions.ensures refl refl c.observe_pulses-found.ensures
+    accepted-call c.args.start c.args.trace.now c.args.findings.now c.findings_room.ensures c.in_ok-accepted.ensures.checked c.in_ok-accepted.ensures.trace c.sort_repeated.ensures refl refl c.observe_pulses-found.ensures
     c.write_findings-tallies.ensures.written
