@@ -41,6 +41,10 @@ static struct edge edge_of(struct random *random, enum shape shape, size_t j, si
     }
 }
 
+// The library takes the upper bits of an id times 0x9E3779B97F4A7C15 for its bucket: of numbers in a row times the inverse of
+// that, modulo 2^64, these bits are the same.
+#define BUCKET_INVERSE 0xF1DE83E19937733Du
+
 static uint64_t id_of(uint64_t form, uint64_t base, size_t place)
 {
     switch (form) {
@@ -48,12 +52,14 @@ static uint64_t id_of(uint64_t form, uint64_t base, size_t place)
         return place + 1;
     case 1:
         return UINT64_MAX - place;
-    case 2: // all in one bucket of the library's index
-        return base % 1000 + 1021 * place;
-    case 3:
-        return base + 1021 * ((uint64_t)place << 40);
+    case 2: // all in one bucket of the library's index, the first
+        return (base % 1000 + place) * BUCKET_INVERSE;
+    case 3: // or another
+        return (base + place) * BUCKET_INVERSE;
     case 4:
         return (base << 9) + place;
+    case 5: // crowds at both ends of the range, and few between
+        return place % 3 == 0 ? place : place % 3 == 1 ? UINT64_MAX - place : (uint64_t)place << 40;
     default: // an odd factor: no two are equal
         return base + place * 0x9E3779B97F4A7C15u;
     }
@@ -62,7 +68,7 @@ static uint64_t id_of(uint64_t form, uint64_t base, size_t place)
 static void make_ids(struct random *random, struct call *call, size_t n)
 {
     static size_t places[MOST_ENTRIES];
-    uint64_t form = below(random, 6), base = any_word(random);
+    uint64_t form = below(random, 7), base = any_word(random);
     bool ordered = one_in(random, 3);
     shuffled(random, places, n);
     for (size_t i = 0; i < n; i++)

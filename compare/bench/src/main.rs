@@ -5,6 +5,7 @@
 //! What either side needs is made before the clock starts. It exits with 1 where an answer is
 //! wrong, and for no other reason.
 mod clock;
+mod deepest;
 mod parts;
 mod scenes;
 mod traces;
@@ -20,7 +21,8 @@ fn main() {
     let rng = &mut Rng::new(seed);
     let tables = scenes::table(rng)
         .and_then(|()| parts::table(rng))
-        .and_then(|()| traces::table(rng));
+        .and_then(|()| traces::table(rng))
+        .and_then(|()| deepest::table(rng));
     if let Err(wrong) = tables {
         println!("WRONG: {wrong}");
         exit(1);
