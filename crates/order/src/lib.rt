@@ -4,6 +4,7 @@
 mod keys; // keys.rt: the key at a position
 mod arrange; // arrange.rt: a guess at their order
 mod buckets; // buckets.rt: how many keys a bucket has, and where they are to stand
+mod crowded; // crowded.rt: buckets with many keys
 mod check; // check.rt: whether a row is the ordered positions
 pub mod sort; // sort.rt: the positions of a list of keys, ordered by key and then by position
 mod numbers; // numbers.rt: equal keys get one number
