@@ -4,13 +4,13 @@ use mathlib.Core.List.{List, [], ◌∷◌, map, map-map, Memᴰ}
 use mathlib.Core.Path.{◌≡◌, refl, sym, ap, subst, ◌∙◌}
 use Prim.Native.Nat.{ℕ, ◌+◌, ◌≤◌}
 use native.Mathlib.Omega.{arith}
-use lib.ListN.{length, take, length-map}
+use lib.ListN.{length, take}
 use Rattle.std.specs.Prelude.{Ok, Err}
 use Rattle.rules.specs.Lists.{written_from}
 use Rattle.rules.specs.Ordered.{ordered}
 use Rattle.rules.specs.Codes.{unit_of}
 use Rattle.rules.specs.Refusals.{Checked, accepted, first_refusal, shortest}
-use Rattle.rules.specs.Verdicts.{contracts_of, Finding, finding_of, findings, FindingLists, finding_lengths, FindingsListed}
+use Rattle.rules.specs.Verdicts.{contracts_of, Finding, finding_of, findings, FindingLists, finding_lengths, FindingsListed, tallies}
 use Rattle.rules.specs.Windows.{window_places, pulse_at}
 use Rattle.rules.specs.Traces.{TraceLimits, trace_limits, TraceLists, event_count, contract_count, trace_tests, trace_findings, AssessedBy}
 use Rattle.rules.specs.Lent.{events_lent, contracts_lent, trace_lent, findings_lent}
@@ -20,12 +20,12 @@ use Rattle.rules.specs.declared.answers.Refusal.{Refusal}
 use Rattle.rules.proofs.Ordering.{ordered-length, ordered-below}
 use Rattle.rules.proofs.Shortest.{short-any}
 use Rattle.rules.proofs.TraceAcceptance.{AcceptedTrace, accepted→trace, refused-assessed}
-use Rattle.rules.proofs.Windows.{pulses-windows, places_inside, places-few}
+use Rattle.rules.proofs.Windows.{pulses-windows}
 use Rattle.rules.proofs.Written.{written-front}
 use Rattle.order.specs.Sorted.{SortedPositions}
 use Rattle.order.proofs.Promises.{fitting-sorts}
 use Rattle.transient.specs.Row.{Inside}
-use Rattle.transient.specs.Judged.{found, AllInside, FindingRoom, FindingsWritten}
+use Rattle.transient.specs.Judged.{found, FindingRoom}
 
 -- Room for each field
 pub rooms : (start n : ℕ) (o : FindingLists) → ((k : ℕ) → Memᴰ k (finding_lengths o) → start + n ≤ k) → FindingRoom start n o
@@ -106,45 +106,35 @@ module _ (start : ℕ) (trace : Trace) (lent : Findings) {room : ℕ} (shortest-
       pub row-inside : Inside (length it.events.ticks.now) row
       row-inside = rw (same, row-ordered) (λ k h. omega (arith, ordered-below t.events.components k (omega (arith, ordered-length t.events.components)), accepted-aligned))
 
-      module _ {places : List ℕ} (observed : places ≡ window_places (events_lent it.events) row (length row)) where
-        here : places ≡ window_places t.events row (length row)
-        here = observed ∙ ap (λ x. window_places (events_lent x.events) row (length row)) same
+      pub row-room : FindingRoom start (length row) old
+      row-room = accepted-room (length row) (omega (arith, row_length))
 
-        pub found-inside : AllInside (length row) places
-        found-inside = rw here (λ j h. places_inside t.events row (length row) j h)
+      -- the findings of the trace are those of the row
+      windows-ordered : window_places t.events row (length row) ≡ window_places t.events (ordered t.events.components) (length t.events.ticks)
+      windows-ordered = ap (λ x. window_places t.events x (length row)) row-ordered ∙ ap (window_places t.events (ordered t.events.components)) (row_length ∙ accepted-aligned)
 
-        pub found-room : FindingRoom start (length places) old
-        found-room = accepted-room _ (omega (arith, ap length here, places-few t.events row (length row), row_length))
+      findings-here : map (found (contracts_of t.contracts) t.unit t.events row) (window_places t.events row (length row)) ≡ trace_findings t
+      unfolding trace_findings findings
+      findings-here =
+          let cs = contracts_of t.contracts in
+          ap (map (found cs t.unit t.events row)) windows-ordered
+          ∙ ap (λ x. map (found cs t.unit t.events x) (window_places t.events (ordered t.events.components) (length t.events.ticks))) row-ordered
+          ∙ sym (map-map (finding_of cs) (pulse_at (unit_of t.unit) t.events (ordered t.events.components)) (window_places t.events (ordered t.events.components) (length t.events.ticks)))
+          ∙ ap (map (finding_of cs)) (sym (pulses-windows (unit_of t.unit) t.events accepted-aligned))
 
-        -- the findings of the trace are those of the places found
-        windows-ordered : window_places t.events row (length row) ≡ window_places t.events (ordered t.events.components) (length t.events.ticks)
-        windows-ordered = ap (λ x. window_places t.events x (length row)) row-ordered ∙ ap (window_places t.events (ordered t.events.components)) (row_length ∙ accepted-aligned)
+      -- those of what is accepted
+      abbrev row_findings : List Finding
+      row_findings = map (found (contracts_of (contracts_lent it.contracts)) it.unit (events_lent it.events) row) (window_places (events_lent it.events) row (length row))
 
-        abbrev wrote : ℕ → Finding
-        wrote = found (contracts_of t.contracts) t.unit t.events row
+      found-all : row_findings ≡ trace_findings t
+      found-all = ap (λ x. map (found (contracts_of (contracts_lent x.contracts)) x.unit (events_lent x.events) row) (window_places (events_lent x.events) row (length row))) same ∙ findings-here
 
-        findings-here : map wrote places ≡ trace_findings t
-        unfolding trace_findings findings
-        findings-here =
-            let cs = contracts_of t.contracts in
-            ap (map wrote) (here ∙ windows-ordered)
-            ∙ ap (λ x. map (found cs t.unit t.events x) (window_places t.events (ordered t.events.components) (length t.events.ticks))) row-ordered
-            ∙ sym (map-map (finding_of cs) (pulse_at (unit_of t.unit) t.events (ordered t.events.components)) (window_places t.events (ordered t.events.components) (length t.events.ticks)))
-            ∙ ap (map (finding_of cs)) (sym (pulses-windows (unit_of t.unit) t.events accepted-aligned))
-
-        counted : length places ≡ length (trace_findings t)
-        counted = sym (length-map places wrote) ∙ ap length findings-here
-
-        written-call : {new : FindingLists} {tallies' : List ℕ} → FindingsWritten (contracts_of t.contracts) t.unit t.events row places start old new tallies'
-            → AssessedBy checked start t old new (Ok (record { findings = length places; contracts_applied = length t.contracts.components; tallies = tallies' }))
-        unfolding contract_count
-        written-call {new} {tallies'} w = rw (← checked-by e) (record {
-          assessed = rw (w.tallied, findings-here, counted);
-          numbered = rw counted;
-          tallied = rw (w.tallied, findings-here);
-          listed = subst (λ fs. FindingsListed (written_from start) fs old new) findings-here w.listed;
-        })
-
-        pub accepted-call : {new : FindingLists} {tallies' : List ℕ} → FindingsWritten (contracts_of (contracts_lent it.contracts)) it.unit (events_lent it.events) row places start old new tallies'
-            → AssessedBy checked start t old new (Ok (record { findings = length places; contracts_applied = length t.contracts.components; tallies = tallies' }))
-        accepted-call {new} {tallies'} w = written-call (subst (λ x. FindingsWritten (contracts_of (contracts_lent x.contracts)) x.unit (events_lent x.events) row places start old new tallies') same w)
+      pub accepted-call : {new : FindingLists} {count : ℕ} {tallies' : List ℕ} → FindingsListed (written_from start) row_findings old new → count ≡ length row_findings → tallies' ≡ tallies row_findings
+          → AssessedBy checked start t old new (Ok (record { findings = count; contracts_applied = length t.contracts.components; tallies = tallies' }))
+      unfolding contract_count
+      accepted-call {new} {count} {tallies'} listed counted tallied = rw (← checked-by e) (record {
+        assessed = rw (tallied, counted, found-all);
+        numbered = rw (counted, found-all);
+        tallied = rw (tallied, found-all);
+        listed = subst (λ fs. FindingsListed (written_from start) fs old new) found-all listed;
+      })

@@ -1,59 +1,71 @@
--- The findings of the places, one after the other. Assumes nothing.
+-- The pulses of the row, one after the other. Assumes nothing.
 use mathlib.Core.List.{List, [], ◌∷◌, ◌++◌, map, map-append}
 use mathlib.Core.Path.{◌≡◌, sym, ap, subst, ◌∙◌}
 use Prim.Native.Nat.{ℕ, ◌+◌, ◌<◌, ◌≤◌}
-use Rattle.std.proofs.Common.{add-one}
 use native.Mathlib.Omega.{arith}
-use lib.ListN.{length, get_or, set, take, length-map}
-use lib.Seq.{length-take-le, take-suc}
+use lib.ListN.{length, length-map}
 use Rattle.rules.specs.Lists.{written_from}
-use Rattle.rules.specs.Codes.{verdict_code}
-use Rattle.rules.specs.Pulses.{EventLists}
-use Rattle.rules.specs.Lent.{events_lent, contracts_lent, findings_lent}
-use Rattle.rules.specs.declared.lent.Trace.{Trace}
-use Rattle.rules.specs.declared.lent.Findings.{Findings}
-use Rattle.rules.specs.Verdicts.{Contract, contracts_of, Finding, FindingLists, FindingsListed, tallies}
-use Rattle.transient.specs.Judged.{found, FindingRoom, FindingsWritten}
-use Rattle.transient.proofs.Listing.{none_listed, room_left, one_more_listed}
-use Rattle.transient.proofs.Tallies.{no_tallies, tally_few, one_tallied}
+use Rattle.rules.specs.Codes.{unit_of}
+use Rattle.rules.specs.Lent.{events_lent}
+use Rattle.rules.specs.Pulses.{EventLists, Pulse}
+use Rattle.rules.specs.Verdicts.{Finding, FindingLists, finding_of}
+use Rattle.rules.specs.Windows.{pulse_at, window_places}
+use Rattle.rules.proofs.Windows.{places-few}
+use Rattle.transient.specs.declared.pulses.EventRow.{EventRow}
+use Rattle.transient.specs.Judged.{found_in, findings_in, FindingRoom, PulseWritten, PulsesListed}
+use Rattle.transient.specs.Row.{EndsPulses}
+use Rattle.transient.proofs.Listing.{pulse-room, next-listed}
+use Rattle.transient.proofs.Places.{before, touched, touched-next, left_over, few, all_before, all_touched}
 
-module _ (trace : Trace) (row places : List ℕ) (start : ℕ) (lent : Findings) where
-  abbrev cs : List Contract
-  cs = contracts_of (contracts_lent trace.contracts)
-
+module _ (r : EventRow) where
   abbrev l : EventLists
-  l = events_lent trace.events
+  l = events_lent r.trace.aligned.lent.events
 
-  abbrev old : FindingLists
-  old = findings_lent lent
+  abbrev row : List ℕ
+  row = r.positions.now
 
-  -- those of the first j places are written
-  abbrev WrittenBelow : ℕ → FindingLists → List ℕ → Type 0
-  WrittenBelow j mid counts = FindingsWritten cs trace.unit l row (take j places) start old mid counts
+  -- the findings of places
+  abbrev pub at_places : List ℕ → List Finding
+  at_places places = map (found_in r) places
 
-  abbrev below : ℕ → List Finding
-  below j = map (found cs trace.unit l row) (take j places)
+  module _ {start : ℕ} {old mid : FindingLists} (room : FindingRoom start (length row) old) (k : ℕ) (h : k + 2 < length row) {count : ℕ} (counted : count ≡ length (before l row k))
+      (listed : PulsesListed (written_from start) (at_places (touched l row k)) old mid) where
+    abbrev fs : List Finding
+    fs = at_places (before l row k)
 
-  pub none-written : WrittenBelow 0 old (0 ∷ 0 ∷ 0 ∷ 0 ∷ 0 ∷ [])
-  none-written = record { listed = none_listed start old; tallied = no_tallies }
+    abbrev extra : List Finding
+    extra = at_places (left_over l row k).0
 
-  module _ (j : ℕ) (h : j < length places) {mid : FindingLists} {counts : List ℕ} (w : WrittenBelow j mid counts) where
-    below-length : length (below j) ≡ j
-    below-length = length-map (take j places) (found cs trace.unit l row) ∙ length-take-le j places (omega arith)
+    most : length extra ≤ 1
+    most = omega (arith, length-map (left_over l row k).0 (found_in r), (left_over l row k).1)
 
-    pub next-room : FindingRoom start (length places) old → FindingRoom (start + j) 1 mid
-    next-room room = room_left room (omega (arith, below-length)) (omega (arith, below-length)) w.listed
+    split : at_places (touched l row k) ≡ fs ++ extra
+    split = ap at_places (left_over l row k).2 ∙ map-append (found_in r) (before l row k) (left_over l row k).0
 
-    module _ {f : Finding} (e : f ≡ found cs trace.unit l row (get_or places j 0)) where
-      pub next-few : get_or counts (verdict_code f.judgement.verdict) 0 ≤ j
-      next-few = omega (arith, ap (λ c. get_or c (verdict_code f.judgement.verdict) 0) w.tallied, tally_few (below j) f, below-length)
+    fits : length fs < length row
+    fits = omega (arith, length-map (before l row k) (found_in r), few l row k)
 
-      more : below j ++ (f ∷ []) ≡ below (j + 1)
-      more = ap (λ x. below j ++ (x ∷ [])) e ∙ sym (map-append (found cs trace.unit l row) (take j places) (get_or places j 0 ∷ [])) ∙ ap (map (found cs trace.unit l row)) (sym (rw add-one (take-suc places j 0 h)))
+    here : start + count ≡ start + length fs
+    here = omega (arith, counted, length-map (before l row k) (found_in r))
 
-      pub next-written : {new : FindingLists} {counts' : List ℕ} → FindingRoom start (length places) old → FindingsListed (written_from (start + j)) (f ∷ []) mid new
-          → counts' ≡ set counts (verdict_code f.judgement.verdict) (get_or counts (verdict_code f.judgement.verdict) 0 + 1) → WrittenBelow (j + 1) new counts'
-      next-written {new} room next s = record {
-        listed = subst (λ fs. FindingsListed (written_from start) fs old new) more (one_more_listed room (omega (arith, below-length)) (omega (arith, below-length)) w.listed next);
-        tallied = s ∙ ap (λ c. set c (verdict_code f.judgement.verdict) (get_or c (verdict_code f.judgement.verdict) 0 + 1)) w.tallied ∙ one_tallied (below j) f ∙ ap tallies more;
-      }
+    listed' : PulsesListed (written_from start) (fs ++ extra) old mid
+    listed' = subst (λ x. PulsesListed (written_from start) x old mid) split listed
+
+    pub room-left : FindingRoom (start + count) 1 mid
+    room-left = pulse-room start fs extra most room fits here listed'
+
+    pub more-listed : {p : Pulse} {new : FindingLists} → p ≡ pulse_at (unit_of r.trace.aligned.lent.unit) l row k → PulseWritten (start + count) p mid new
+        → PulsesListed (written_from start) (at_places (touched l row (k + 1))) old new
+    unfolding finding_of
+    more-listed {p} {new} e w =
+        subst (λ x. PulsesListed (written_from start) x old new) (sym (map-append (found_in r) (before l row k) (k ∷ [])) ∙ ap at_places (touched-next l row k))
+        (next-listed start fs extra most room fits here listed' (found_in r k) (subst (λ x. PulseWritten (start + count) x mid new) e w))
+
+  pub all-listed : (start : ℕ) {end : ℕ} {old new : FindingLists} → EndsPulses l row end → PulsesListed (written_from start) (at_places (touched l row end)) old new → PulsesListed (written_from start) (findings_in r) old new
+  all-listed start {end} {old} {new} e = subst (λ x. PulsesListed (written_from start) (at_places x) old new) (all_touched l row e)
+
+  pub all-counted : {end count : ℕ} → EndsPulses l row end → count ≡ length (before l row end) → count ≡ length (findings_in r)
+  all-counted e c = c ∙ ap length (all_before l row e) ∙ sym (length-map _ (found_in r))
+
+  pub findings-few : length (findings_in r) ≤ length row
+  findings-few = omega (arith, length-map (window_places l row (length row)) (found_in r), places-few l row (length row))

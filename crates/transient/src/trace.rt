@@ -47,17 +47,16 @@ pub fn assess_from(
 {
     let accepted = check_trace(start, trace, findings_room(findings))?;
     let mut order = [0usize; MAX_EVENTS];
-    let mut places = [0usize; MAX_EVENTS];
+    let mut scratch = [0usize; MAX_EVENTS];
     let events = trace.events.components;
-    sort_repeated(events, &mut order, &mut places);
+    sort_repeated(events, &mut order, &mut scratch);
     let row = EventRow {
         trace: accepted,
         positions: &order[..events.len()],
     };
-    let found = row.observe_pulses(&mut places);
-    let tallies = row.write_findings(found, start, findings);
+    let (count, tallies) = row.write_findings(start, findings);
     Ok(TransientAssessment {
-        findings: found.len() as u64,
+        findings: count as u64,
         contracts_applied: trace.contracts.components.len() as u64,
         tallies,
     })

@@ -1,7 +1,7 @@
 -- The trace is tested; its pulses are found and judged. Assumes nothing.
 use Rattle.std.proofs.Common.{rules, arith, ◌≡◌, Err, length, refl, sym}
 use lib.Seq.{length-take-le}
-use Rattle.transient.proofs.Whole.{refused-call, accepted-few, row-inside, found-inside, found-room, accepted-call}
+use Rattle.transient.proofs.Whole.{refused-call, accepted-few, row-inside, row-room, accepted-call}
 use Rattle.transient.proofs.trace.assess_from.Goals as goal
 
 pub returns-in_err-accepted-clause-assessed : goal.returns-in_err-accepted-clause-assessed
@@ -20,15 +20,11 @@ slice_bounds-row-end c =
 pub invariant_of-row : goal.invariant_of-row
 invariant_of-row c = record { inside = row-inside c.args.start c.args.trace.now c.args.findings.now c.findings_room.ensures c.in_ok-accepted.ensures.checked c.in_ok-accepted.ensures.trace c.sort_repeated.ensures refl refl }
 
-pub write_findings-tallies-requires-clause-places : goal.write_findings-tallies-requires-clause-places
-write_findings-tallies-requires-clause-places c =
-    found-inside c.args.start c.args.trace.now c.args.findings.now c.findings_room.ensures c.in_ok-accepted.ensures.checked c.in_ok-accepted.ensures.trace c.sort_repeated.ensures refl refl c.observe_pulses-found.ensures
-
-pub write_findings-tallies-requires-clause-room : goal.write_findings-tallies-requires-clause-room
-write_findings-tallies-requires-clause-room c =
-    found-room c.args.start c.args.trace.now c.args.findings.now c.findings_room.ensures c.in_ok-accepted.ensures.checked c.in_ok-accepted.ensures.trace c.sort_repeated.ensures refl refl c.observe_pulses-found.ensures
+pub write_findings-count-requires : goal.write_findings-count-requires
+write_findings-count-requires c =
+    row-room c.args.start c.args.trace.now c.args.findings.now c.findings_room.ensures c.in_ok-accepted.ensures.checked c.in_ok-accepted.ensures.trace c.sort_repeated.ensures refl refl
 
 pub returns-clause-assessed : goal.returns-clause-assessed
 returns-clause-assessed c =
-    accepted-call c.args.start c.args.trace.now c.args.findings.now c.findings_room.ensures c.in_ok-accepted.ensures.checked c.in_ok-accepted.ensures.trace c.sort_repeated.ensures refl refl c.observe_pulses-found.ensures
-    c.write_findings-tallies.ensures.written
+    accepted-call c.args.start c.args.trace.now c.args.findings.now c.findings_room.ensures c.in_ok-accepted.ensures.checked c.in_ok-accepted.ensures.trace c.sort_repeated.ensures refl refl
+    c.write_findings-count.ensures.listed c.write_findings-count.ensures.counted c.write_findings-count.ensures.tallied

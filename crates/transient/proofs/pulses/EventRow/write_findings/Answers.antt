@@ -1,30 +1,15 @@
--- The places are gone through in order. Assumes nothing.
-use Rattle.std.proofs.Common.{rules, arith}
-use Rattle.transient.proofs.Writing.{none-written, next-room, next-few, next-written}
+-- The pulses that were written are judged. Assumes nothing.
+use Rattle.transient.specs.Judged.{findings_in}
+use Rattle.transient.proofs.Listing.{room_kept, pulses-held, both_listed}
+use Rattle.transient.proofs.Writing.{findings-few}
 use Rattle.transient.proofs.pulses.EventRow.write_findings.Goals as goal
 
-pub loop-j-init : goal.loop-j-init
-loop-j-init c = record {
-  same = search rules;
-  sought = search rules;
-  written = none-written c.args.self.trace.aligned.lent c.args.self.positions.now c.args.places.now c.args.start c.args.findings.now;
-}
+pub judge_pulses-tallies-requires-clause-room : goal.judge_pulses-tallies-requires-clause-room
+judge_pulses-tallies-requires-clause-room c =
+    rw c.write_pulses-count.ensures.counted (room_kept (findings_in c.args.self) c.requires (findings-few c.args.self) c.write_pulses-count.ensures.listed)
 
-pub write-requires : goal.write-requires
-write-requires c =
-    next-room c.args.self.trace.aligned.lent c.args.self.positions.now c.args.places.now c.args.start c.args.findings.now c.loop-j.j (omega arith) c.loop-j.invariant.written c.requires.room
+pub judge_pulses-tallies-requires-clause-held : goal.judge_pulses-tallies-requires-clause-held
+judge_pulses-tallies-requires-clause-held c = pulses-held (findings_in c.args.self) c.requires (findings-few c.args.self) c.write_pulses-count.ensures.listed
 
-pub count_verdict-requires : goal.count_verdict-requires
-count_verdict-requires c = omega (
-  arith,
-  next-few c.args.self.trace.aligned.lent c.args.self.positions.now c.args.places.now c.args.start c.args.findings.now c.loop-j.j (omega arith) c.loop-j.invariant.written c.finding-finding.ensures.finding,
-)
-
-pub loop-j-preserved : goal.loop-j-preserved
-loop-j-preserved c = record {
-  same = search rules;
-  sought = search rules;
-  written =
-      next-written c.args.self.trace.aligned.lent c.args.self.positions.now c.args.places.now c.args.start c.args.findings.now c.loop-j.j (omega arith) c.loop-j.invariant.written c.finding-finding.ensures.finding
-      c.requires.room c.write.ensures.listed c.count_verdict.ensures;
-}
+pub returns-clause-listed : goal.returns-clause-listed
+returns-clause-listed c = both_listed c.write_pulses-count.ensures.listed c.judge_pulses-tallies.ensures.listed
