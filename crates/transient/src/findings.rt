@@ -77,7 +77,7 @@ impl EventRow<'_> {
         ensures tallied { result ≡ tallies (findings_in self.entry) }
     {
         let mut tallies = [0u64; 5];
-        let mut sought = SoughtCriterion::seek(self.trace, 0, 0);
+        let mut sought = SoughtCriterion::seek(&self.trace, 0, 0);
         for j in 0..count {
             let at = start + j;
             let (verdict, rationale) = sought.judge(

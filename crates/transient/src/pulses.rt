@@ -35,13 +35,17 @@ impl EventRow<'_> {
 
     // Whether a pulse begins at a place. Where the row rises by component, the events between two of one component are
     // of that component too.
-    #[tactic(auto, unfolding(rules::specs::Windows::window_pulse))]
+    #[tactic(auto, unfolding(rules::specs::Windows::window_pulse, rules::specs::Pulses::is_pulse))]
     pub(crate) fn begins_pulse(self, k: usize) -> bool
         requires { k + 2 < length self.positions.now }
         ensures { result ≡ window_pulse (events_lent self.entry.trace.aligned.lent.events) self.entry.positions.now k }
     {
         let window = self.window(k);
-        (window.first.component == window.third.component) & window.is_pulse()
+        let steady = window.first.is_powered();
+        (window.first.component == window.third.component)
+            & (steady == window.third.is_powered())
+            & (steady != window.second.is_powered())
+            & (window.second.tick < window.third.tick)
     }
 
     // The pulse that begins at a place, if one does.

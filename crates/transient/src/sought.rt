@@ -10,20 +10,24 @@ use crate::criterion::Criterion;
 
 // The component that was sought last, how many contracts have components below it, and what its pulses are judged by.
 #[derive(Clone, Copy)]
-pub(crate) struct SoughtCriterion<'a> {
-    pub trace: AcceptedTrace<'a>,
+pub(crate) struct SoughtCriterion<'t, 'a> {
+    pub trace: &'t AcceptedTrace<'a>,
     pub component: u64,
     pub below: usize,
     pub criterion: Criterion,
-    ghost split: { SplitAt trace.aligned.lent.contracts.components.now component below },
-    ghost judges: { Judges criterion (design_intent (contracts_of (contracts_lent trace.aligned.lent.contracts)) component) trace.unit },
+    ghost split: { SplitAt trace.now.aligned.lent.contracts.components.now component below },
+    ghost judges: { Judges criterion (design_intent (contracts_of (contracts_lent trace.now.aligned.lent.contracts)) component) trace.now.unit },
 }
 
-impl<'a> SoughtCriterion<'a> {
+impl<'t, 'a> SoughtCriterion<'t, 'a> {
     // A component is sought from a contract on, where those before it have components below.
-    pub(crate) fn seek(trace: AcceptedTrace<'a>, from: usize, component: u64) -> SoughtCriterion<'a>
-        requires { AllBelow trace.aligned.lent.contracts.components.now component from }
-        ensures trace { result.trace ≡ trace.entry }
+    pub(crate) fn seek(
+        trace: &'t AcceptedTrace<'a>,
+        from: usize,
+        component: u64,
+    ) -> SoughtCriterion<'t, 'a>
+        requires { AllBelow trace.now.aligned.lent.contracts.components.now component from }
+        ensures trace { result.trace.now ≡ trace.now }
         ensures component { result.component ≡ component }
     {
         let below = trace.contracts_below(from, component);
@@ -38,7 +42,7 @@ impl<'a> SoughtCriterion<'a> {
 
     // From which contract on the next component is sought: those passed have components below it too, if it is above the last.
     fn passed(&self, component: u64) -> usize
-        ensures { AllBelow self.now.trace.aligned.lent.contracts.components.now component result }
+        ensures { AllBelow self.now.trace.now.aligned.lent.contracts.components.now component result }
     {
         if self.component < component {
             self.below
@@ -47,22 +51,32 @@ impl<'a> SoughtCriterion<'a> {
         }
     }
 
-    // Turns to a component, which is mostly the last one again. Where components rise, each contract is passed once.
+    // Turns to another component. Where components rise, each contract is passed once. Not inlined: the loop that judges would
+    // clear the place of the new value for each pulse.
+    #[inline(never)]
     fn turn_to(&mut self, component: u64)
-        ensures trace { self.new.trace ≡ self.old.trace }
+        ensures trace { self.new.trace.now ≡ self.old.trace.now }
+        ensures component { self.new.component ≡ component }
+    {
+        *self = SoughtCriterion::seek(self.trace, self.passed(component), component);
+    }
+
+    // Stays with the component that was sought last, or turns to another.
+    fn attend(&mut self, component: u64)
+        ensures trace { self.new.trace.now ≡ self.old.trace.now }
         ensures component { self.new.component ≡ component }
     {
         if component != self.component {
-            *self = SoughtCriterion::seek(self.trace, self.passed(component), component);
+            self.turn_to(component);
         }
     }
 
     // What is judged of a pulse of this component, polarity, by its number, and width: the numbers of verdict and rationale.
     pub(crate) fn judge(&mut self, component: u64, polarity: u8, width: u64) -> (u8, u8)
-        ensures trace { self.new.trace ≡ self.old.trace }
-        ensures judged { JudgedBy (design_intent (contracts_of (contracts_lent self.old.trace.aligned.lent.contracts)) component) self.old.trace.unit polarity width result.0 result.1 }
+        ensures trace { self.new.trace.now ≡ self.old.trace.now }
+        ensures judged { JudgedBy (design_intent (contracts_of (contracts_lent self.old.trace.now.aligned.lent.contracts)) component) self.old.trace.now.unit polarity width result.0 result.1 }
     {
-        self.turn_to(component);
+        self.attend(component);
         self.criterion.judge(polarity, width)
     }
 }

@@ -9,7 +9,7 @@ use Rattle.transient.proofs.pulses.EventRow.judge_pulses.Given as goal
 abbrev pub invariant-loop-j : goal.invariant-loop-j
 invariant-loop-j l = record {
   same : SameFindings l.initial.findings l.findings;
-  trace : l.sought.trace ≡ l.self.trace;
-  listed : JudgementsListed (written_from l.start) (take l.j (findings_in l.self)) (findings_lent l.initial.findings) (findings_lent l.findings);
-  tallied : l.tallies ≡ tallies (take l.j (findings_in l.self));
+  trace : l.sought.trace.now ≡ l.fn.self.trace;
+  listed : JudgementsListed (written_from l.start) (take l.j (findings_in l.fn.self)) (findings_lent l.initial.findings) (findings_lent l.findings);
+  tallied : l.tallies ≡ tallies (take l.j (findings_in l.fn.self));
 }

@@ -5,4 +5,4 @@ use Rattle.transient.proofs.sought.SoughtCriterion.judge.Goals as goal
 
 pub returns-clause-judged : goal.returns-clause-judged
 returns-clause-judged c =
-    judged-by (rw (c.turn_to.ensures.trace, c.turn_to.ensures.component) at c.turn_to.new.self.judges) (omega arith) c.judge.ensures.verdict c.judge.ensures.rationale
+    judged-by (rw (c.attend.ensures.trace, c.attend.ensures.component) at c.attend.new.self.judges) (omega arith) c.judge.ensures.verdict c.judge.ensures.rationale
