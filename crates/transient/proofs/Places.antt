@@ -52,12 +52,13 @@ module _ (l : EventLists) (row : List ℕ) where
       go true e f = omega (arith, f, ap length (one_more k ∙ ap (λ b. before k ++ cond b (k ∷ []) []) e), length-append (before k) (k ∷ []))
       go false e f = omega (arith, f, ap length (one_more k ∙ ap (λ b. before k ++ cond b (k ∷ []) []) e), length-append (before k) [])
 
-  pub count-none : 0 ≡ length (before 0)
-  count-none = rw before-none
+  -- the next place to write to
+  pub count-none : (start : ℕ) → start ≡ start + length (before 0)
+  count-none start = omega (arith, ap length before-none)
 
-  pub count-more : (k : ℕ) {count step : ℕ} (b : Bool) → b ≡ window_pulse l row k → step ≡ bool_byte b → count ≡ length (before k) → count + step ≡ length (before (k + 1))
-  count-more k true e s c = omega (arith, s, c, ap length (ap before (add-one k) ∙ one_more k ∙ ap (λ b. before k ++ cond b (k ∷ []) []) (sym e)), length-append (before k) (k ∷ []))
-  count-more k false e s c = omega (arith, s, c, ap length (ap before (add-one k) ∙ one_more k ∙ ap (λ b. before k ++ cond b (k ∷ []) []) (sym e)), length-append (before k) [])
+  pub count-more : (start k : ℕ) {at step : ℕ} (b : Bool) → b ≡ window_pulse l row k → step ≡ bool_byte b → at ≡ start + length (before k) → at + step ≡ start + length (before (k + 1))
+  count-more start k true e s c = omega (arith, s, c, ap length (ap before (add-one k) ∙ one_more k ∙ ap (λ b. before k ++ cond b (k ∷ []) []) (sym e)), length-append (before k) (k ∷ []))
+  count-more start k false e s c = omega (arith, s, c, ap length (ap before (add-one k) ∙ one_more k ∙ ap (λ b. before k ++ cond b (k ∷ []) []) (sym e)), length-append (before k) [])
 
   -- past the last one there is no more
   module _ {end : ℕ} (ends : EndsPulses l row end) where

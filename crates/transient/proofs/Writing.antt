@@ -1,7 +1,7 @@
 -- The pulses of the row, one after the other. Assumes nothing.
 use mathlib.Core.List.{List, [], ◌∷◌, ◌++◌, map, map-append}
 use mathlib.Core.Path.{◌≡◌, sym, ap, subst, ◌∙◌}
-use Prim.Native.Nat.{ℕ, ◌+◌, ◌<◌, ◌≤◌}
+use Prim.Native.Nat.{ℕ, ◌+◌, ◌-◌, ◌<◌, ◌≤◌}
 use native.Mathlib.Omega.{arith}
 use lib.ListN.{length, length-map}
 use Rattle.rules.specs.Lists.{written_from}
@@ -28,7 +28,7 @@ module _ (r : EventRow) where
   abbrev pub at_places : List ℕ → List Finding
   at_places places = map (found_in r) places
 
-  module _ {start : ℕ} {old mid : FindingLists} (room : FindingRoom start (length row) old) (k : ℕ) (h : k + 2 < length row) {count : ℕ} (counted : count ≡ length (before l row k))
+  module _ {start : ℕ} {old mid : FindingLists} (room : FindingRoom start (length row) old) (k : ℕ) (h : k + 2 < length row) {at : ℕ} (counted : at ≡ start + length (before l row k))
       (listed : PulsesListed (written_from start) (at_places (touched l row k)) old mid) where
     abbrev fs : List Finding
     fs = at_places (before l row k)
@@ -45,27 +45,27 @@ module _ (r : EventRow) where
     fits : length fs < length row
     fits = omega (arith, length-map (before l row k) (found_in r), few l row k)
 
-    here : start + count ≡ start + length fs
+    here : at ≡ start + length fs
     here = omega (arith, counted, length-map (before l row k) (found_in r))
 
     listed' : PulsesListed (written_from start) (fs ++ extra) old mid
     listed' = subst (λ x. PulsesListed (written_from start) x old mid) split listed
 
-    pub room-left : FindingRoom (start + count) 1 mid
+    pub room-left : FindingRoom at 1 mid
     room-left = pulse-room start fs extra most room fits here listed'
 
-    pub more-listed : {p : Pulse} {new : FindingLists} → p ≡ pulse_at (unit_of r.trace.aligned.lent.unit) l row k → PulseWritten (start + count) p mid new
+    pub more-listed : {p : Pulse} {new : FindingLists} → p ≡ pulse_at (unit_of r.trace.aligned.lent.unit) l row k → PulseWritten at p mid new
         → PulsesListed (written_from start) (at_places (touched l row (k + 1))) old new
     unfolding finding_of
     more-listed {p} {new} e w =
         subst (λ x. PulsesListed (written_from start) x old new) (sym (map-append (found_in r) (before l row k) (k ∷ [])) ∙ ap at_places (touched-next l row k))
-        (next-listed start fs extra most room fits here listed' (found_in r k) (subst (λ x. PulseWritten (start + count) x mid new) e w))
+        (next-listed start fs extra most room fits here listed' (found_in r k) (subst (λ x. PulseWritten at x mid new) e w))
 
   pub all-listed : (start : ℕ) {end : ℕ} {old new : FindingLists} → EndsPulses l row end → PulsesListed (written_from start) (at_places (touched l row end)) old new → PulsesListed (written_from start) (findings_in r) old new
   all-listed start {end} {old} {new} e = subst (λ x. PulsesListed (written_from start) (at_places x) old new) (all_touched l row e)
 
-  pub all-counted : {end count : ℕ} → EndsPulses l row end → count ≡ length (before l row end) → count ≡ length (findings_in r)
-  all-counted e c = c ∙ ap length (all_before l row e) ∙ sym (length-map _ (found_in r))
+  pub all-counted : (start : ℕ) {end at : ℕ} → EndsPulses l row end → at ≡ start + length (before l row end) → at - start ≡ length (findings_in r)
+  all-counted start {end} e c = omega (arith, c, ap length (all_before l row e), length-map (window_places l row (length row)) (found_in r))
 
   pub findings-few : length (findings_in r) ≤ length row
   findings-few = omega (arith, length-map (window_places l row (length row)) (found_in r), places-few l row (length row))

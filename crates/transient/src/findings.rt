@@ -58,13 +58,13 @@ impl EventRow<'_> {
         ensures listed { PulsesListed (written_from start) (findings_in self.entry) (findings_lent findings.old) (findings_lent findings.new) }
         ensures counted { result ≡ length (findings_in self.entry) }
     {
-        let mut count = 0;
+        let mut at = start;
         for k in 0..self.pulses_end() {
             let begins = self.begins_pulse(k);
-            write_pulse(self.pulse(k), start + count, findings);
-            count += usize::from(begins);
+            write_pulse(self.pulse(k), at, findings);
+            at += usize::from(begins);
         }
-        count
+        at - start
     }
 
     // Writes what is judged of the pulses from start on, of which there are so many; answers the tallies.

@@ -21,6 +21,7 @@ pub(crate) struct SoughtCriterion<'t, 'a> {
 
 impl<'t, 'a> SoughtCriterion<'t, 'a> {
     // A component is sought from a contract on, where those before it have components below.
+    #[inline(always)]
     pub(crate) fn seek(
         trace: &'t AcceptedTrace<'a>,
         from: usize,

@@ -9,26 +9,18 @@ use Rattle.transient.proofs.pulses.EventRow.write_pulses.Goals as goal
 pub loop-k-init : goal.loop-k-init
 loop-k-init c = record {
   same = search rules;
-  counted = count-none (events_lent c.args.self.trace.aligned.lent.events) c.args.self.positions.now;
+  counted = count-none (events_lent c.args.self.trace.aligned.lent.events) c.args.self.positions.now c.args.start;
   listed = none_listed c.args.start (findings_lent c.args.findings.now);
 }
-
-pub overflow_add-start : goal.overflow_add-start
-overflow_add-start c = omega (
-  arith,
-  few (events_lent c.args.self.trace.aligned.lent.events) c.args.self.positions.now c.loop-k.k,
-  c.loop-k.invariant.counted,
-  c.pulses_end-k-end.ensures.inside c.loop-k.k c.loop-k-test.true,
-)
 
 pub write_pulse-requires : goal.write_pulse-requires
 write_pulse-requires c = room-left c.args.self c.requires c.loop-k.k (c.pulses_end-k-end.ensures.inside c.loop-k.k c.loop-k-test.true) c.loop-k.invariant.counted c.loop-k.invariant.listed
 
-pub overflow_add-count : goal.overflow_add-count
-overflow_add-count c = omega (
+pub overflow_add-at : goal.overflow_add-at
+overflow_add-at c = omega (
   arith,
   few (events_lent c.args.self.trace.aligned.lent.events) c.args.self.positions.now (c.loop-k.k + 1),
-  count-more (events_lent c.args.self.trace.aligned.lent.events) c.args.self.positions.now c.loop-k.k c.begins_pulse-begins.result c.begins_pulse-begins.ensures c.from-count.ensures c.loop-k.invariant.counted,
+  count-more (events_lent c.args.self.trace.aligned.lent.events) c.args.self.positions.now c.args.start c.loop-k.k c.begins_pulse-begins.result c.begins_pulse-begins.ensures c.from-at.ensures c.loop-k.invariant.counted,
   c.pulses_end-k-end.ensures.inside c.loop-k.k c.loop-k-test.true,
 )
 
@@ -36,7 +28,7 @@ pub loop-k-preserved : goal.loop-k-preserved
 loop-k-preserved c = record {
   same = search rules;
   counted =
-      count-more (events_lent c.args.self.trace.aligned.lent.events) c.args.self.positions.now c.loop-k.k c.begins_pulse-begins.result c.begins_pulse-begins.ensures c.from-count.ensures c.loop-k.invariant.counted;
+      count-more (events_lent c.args.self.trace.aligned.lent.events) c.args.self.positions.now c.args.start c.loop-k.k c.begins_pulse-begins.result c.begins_pulse-begins.ensures c.from-at.ensures c.loop-k.invariant.counted;
   listed =
       more-listed c.args.self c.requires c.loop-k.k (c.pulses_end-k-end.ensures.inside c.loop-k.k c.loop-k-test.true) c.loop-k.invariant.counted c.loop-k.invariant.listed c.pulse.ensures
       c.write_pulse.ensures.written;
@@ -50,4 +42,4 @@ returns-clause-listed c =
 pub returns-clause-counted : goal.returns-clause-counted
 returns-clause-counted c =
     let e : c.loop-k.k ≡ c.pulses_end-k-end.result = omega arith in
-    all-counted c.args.self c.pulses_end-k-end.ensures (rw e at c.loop-k.invariant.counted)
+    all-counted c.args.self c.args.start c.pulses_end-k-end.ensures (rw e at c.loop-k.invariant.counted)
