@@ -7,12 +7,13 @@ use rules::transient::{PulsePolarity, Rationale, SignalIntent, TraceTimeUnit, Tr
 
 // A pulse fits if its polarity has this number and its width is neither below the smallest nor above the largest. The numbers
 // of verdict and rationale stand first for a pulse that does not fit, then for one that does: which of them holds is as open
-// as a coin, so it is taken by index and not by a branch.
+// as a coin, so it is taken by index and not by a branch. The small fields stand together: bytes left free between fields are
+// copied too, in pieces that overlap, which takes longer than all the rest.
 #[derive(Clone, Copy)]
 pub(crate) struct Criterion {
-    pub polarity: u8,
     pub smallest: u64,
     pub largest: u64,
+    pub polarity: u8,
     pub verdicts: [u8; 2],
     pub rationales: [u8; 2],
 }
