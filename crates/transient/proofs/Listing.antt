@@ -1,11 +1,10 @@
 -- What is written to list 9, one entry after the other. Assumes nothing.
 use mathlib.Core.List.{List, [], ◌∷◌, ◌++◌, map, map-append, append-nil}
 use mathlib.Core.Path.{◌≡◌, refl, sym, ap, ◌∙◌}
-use Prim.Native.Nat.{ℕ, suc, ◌+◌, ◌<◌, ◌≤◌}
+use Prim.Native.Nat.{ℕ, ◌+◌, ◌<◌, ◌≤◌}
 use native.Mathlib.Omega.{arith}
 use lib.ListN.{length, get_or, set, take, drop, length-map, length-append, get_or-append}
-use lib.Seq.{length-take-le, take-suc}
-use Rattle.std.proofs.Common.{add-one}
+use lib.Seq.{length-take-le}
 use Rattle.std.proofs.lemmas.List.{set-set, get_or-append-add}
 use Rattle.rules.specs.Lists.{written_from}
 use Rattle.rules.specs.Verdicts.{Finding, FindingLists, FindingsListed, finding_component, finding_polarity, finding_unit, finding_start_tick, finding_end_tick, finding_width, finding_steady, finding_baseline, finding_start, finding_end, finding_verdict, finding_rationale}
