@@ -1,30 +1,24 @@
--- Among the ordered positions the first place whose key is not below has the first position of the key, if any has it, and among keys that
--- rise it is that position. Assumes nothing.
+-- Among the ordered positions the first place whose key is not below has the first position of the key, if any has it. Assumes nothing.
 use mathlib.Core.Bool.{Bool, true, false}
 use mathlib.Core.List.{List}
 use mathlib.Core.Path.{◌≡◌, refl, sym, ap, ◌∙◌}
 use mathlib.Core.Logic.{⊎_elim}
-use Prim.Native.Nat.{ℕ, zero, suc, ◌≤◌, ◌<◌}
+use Prim.Native.Nat.{ℕ, ◌≤◌, ◌<◌}
 use native.Mathlib.Omega.{arith}
 use denote.Param.Members.{Mut}
 use denote.Ref.{Bor}
 use lib.Dec.{eqb, ltb}
 use lib.ListN.{length, get_or}
-use Rattle.std.specs.Prelude.{Some, None, Result, Ok, Err}
-use Rattle.std.specs.Result.{result_ok, IfOk}
+use Rattle.std.specs.Prelude.{Some, None}
 use Rattle.std.specs.Bool.{then_some}
 use Rattle.std.specs.Fn.{Called, ComputesKey}
-use Rattle.std.specs.List.Sorted.{IsSearchInRange, IsBinarySearchResult, IsNonDecreasingBy, IsPartitionedBy, IsPartitionPoint}
-use Rattle.std.specs.List.{HoldsAt}
-use Rattle.std.specs.Ordering.{nat_cmp}
-use Rattle.std.proofs.Common.{Equal}
-use Rattle.std.proofs.lemmas.Map.Lookups.{exact_unsigned}
+use Rattle.std.specs.List.Sorted.{IsNonDecreasingBy, IsPartitionedBy, IsPartitionPoint}
 use Rattle.std.proofs.lemmas.Bool.{eqb-true, eqb-false, ltb-true, ltb-false}
-use Rattle.std.proofs.lemmas.List.Sorted.{IsPartitionPoint-from_clause, IsPartitionedBy-ltb, IsNonDecreasingBy-from_default, searched}
-use Rattle.rules.specs.Ordered.{key_at, ordered, Rises}
+use Rattle.std.proofs.lemmas.List.Sorted.{IsPartitionPoint-from_clause, IsPartitionedBy-ltb, IsNonDecreasingBy-from_default}
+use Rattle.rules.specs.Ordered.{key_at, ordered}
 use Rattle.rules.proofs.Sums.{order}
 use Rattle.rules.proofs.Ordering.{ordered-length, ordered-rise, ordered-below, place_of, earlier-place, first→position, none→missing}
-use Rattle.order.specs.Searched.{Searched, SearchedRising}
+use Rattle.order.specs.Searched.{Searched}
 
 -- the key at a place of a row of positions
 abbrev pub key_of : List ℕ → List ℕ → ℕ → ℕ
@@ -105,33 +99,3 @@ module _ (keys row : List ℕ) (key : ℕ) where
         go : (c : Bool) → eqb x key ≡ c → Searched keys row key (then_some c (get_or row place 0))
         go true t = found h b (sym e ∙ eqb-true x key t)
         go false t = searched-missing (λ h b k. eqb-false x key t (e ∙ k))
-
--- Among keys that rise
-module _ (keys : List ℕ) (key : ℕ) where
-  rising : Rises keys → (j k : ℕ) → j ≤ k → k < length keys → key_at keys j ≤ key_at keys k
-  rising u j zero h b = let same : j ≡ 0 = omega arith in omega (arith, ap (key_at keys) same)
-  rising u j (suc k) h b = ⊎_elim (λ g. omega (arith, rising u j k g (omega arith), u k b)) (λ g. omega (arith, ap (key_at keys) (same g))) (order j k)
-    where
-      same : k < j → j ≡ suc k
-      same g = omega arith
-
-  rising-below : Rises keys → (j k : ℕ) → j < k → k < length keys → key_at keys j < key_at keys k
-  rising-below u j k h b = let i : suc j ≤ k = omega arith in omega (arith, rising u (suc j) k i b, u j (omega arith))
-
-  pub searched-rising : (r : Result ℕ ℕ) → IsSearchInRange r (length keys) → IfOk r (HoldsAt (λ y. nat_cmp y key ≡ Equal) keys) → IsBinarySearchResult (λ y. nat_cmp y key) keys r → SearchedRising keys key (result_ok r)
-  searched-rising (Ok i) b e s = record {
-    has_key = λ p a. let same : i ≡ p = cc in (omega arith, ap (key_at keys) (sym same) ∙ has);
-    first = λ u. sym (first→position keys key i (record { inside = b; has = has; none_earlier = λ q h e. let l = rising-below u q i h b in omega (arith, has, e) }));
-  }
-    where
-      has : key_at keys i ≡ key
-      has = exact_unsigned (key_at keys i) key (e 0)
-  searched-rising (Err i) b e s = record {
-    has_key = λ p a. cc;
-    first = λ u. sym (none→missing keys key (none u));
-  }
-    where
-      none : Rises keys → (q : ℕ) → q < length keys → key_at keys q ≡ key → ⊥
-      none u q h a =
-          let f = searched keys key (Err i) s (rising u) in
-          ⊎_elim (λ g. omega (arith, f.2 q g h)) (λ g. omega (arith, f.1 q g)) (order i q)

@@ -1,5 +1,5 @@
-// The first position of a key, by halving the ordered positions, or the keys themselves where they rise.
-ghost use Rattle.order.specs.Searched.{Searched, SearchedRising};
+// The first position of a key, by halving the ordered positions.
+ghost use Rattle.order.specs.Searched.{Searched};
 
 use crate::keys::key_at;
 
@@ -12,12 +12,4 @@ pub fn find_position(keys: &[u64], order: &[usize], key: u64) -> Option<usize>
     let &position = order.get(place)?;
     let &found = keys.get(position)?;
     (found == key).then_some(position)
-}
-
-// Where the keys rise, answers the position of the key, or that no position has it. Where they don't, a position that is
-// answered still has the key, but a key may be missed.
-pub fn find_rising(keys: &[u64], key: u64) -> Option<usize>
-    ensures { SearchedRising keys.now key result }
-{
-    keys.binary_search(&key).ok()
 }

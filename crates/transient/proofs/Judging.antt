@@ -18,7 +18,7 @@ use Rattle.rules.specs.declared.transient.SignalIntent.{SignalIntent}
 use Rattle.rules.proofs.Indices.{map_at}
 use Rattle.transient.specs.declared.accepted.AcceptedTrace.{AcceptedTrace}
 use Rattle.transient.specs.declared.pulses.EventRow.{EventRow}
-use Rattle.transient.specs.Criteria.{JudgedBy}
+use Rattle.verdicts.specs.Criteria.{JudgedBy}
 use Rattle.transient.specs.Judged.{found_in, findings_in, FindingRoom, PulsesHeld, JudgementWritten, JudgementsListed}
 use Rattle.transient.proofs.Listing.{judgement-room, next-judged}
 use Rattle.transient.proofs.Tallies.{tally_few, one_tallied}

@@ -2,8 +2,6 @@
 pub mod Tests
 -- the contract of a component:
 pub mod Registered
--- what is judged of the pulses of a component:
-pub mod Criteria
 -- places of the row, findings and tallies, one after the other:
 pub mod Places
 pub mod Listing

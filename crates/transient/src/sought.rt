@@ -2,11 +2,11 @@
 ghost use Rattle.std.specs.Prelude.{◌≡◌};
 ghost use Rattle.rules.specs.Lent.{contracts_lent};
 ghost use Rattle.rules.specs.Verdicts.{contracts_of, design_intent};
-ghost use Rattle.transient.specs.Criteria.{Judges, JudgedBy};
+ghost use Rattle.verdicts.specs.Criteria.{Judges, JudgedBy};
 ghost use Rattle.transient.specs.Sought.{AllBelow, SplitAt};
 
 use crate::accepted::AcceptedTrace;
-use crate::criterion::Criterion;
+use verdicts::criterion::Criterion;
 
 // The component that was sought last, how many contracts have components below it, and what its pulses are judged by.
 #[derive(Clone, Copy)]
@@ -78,6 +78,6 @@ impl<'t, 'a> SoughtCriterion<'t, 'a> {
         ensures judged { JudgedBy (design_intent (contracts_of (contracts_lent self.old.trace.now.aligned.lent.contracts)) component) self.old.trace.now.unit polarity width result.0 result.1 }
     {
         self.attend(component);
-        self.criterion.judge(polarity, width)
+        self.criterion.classify(polarity, width)
     }
 }

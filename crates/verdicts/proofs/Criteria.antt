@@ -19,8 +19,8 @@ use Rattle.rules.specs.declared.transient.SignalIntent.{SignalIntent}
 use Rattle.rules.specs.declared.transient.SignalIntent.TheVariants as Intent
 use Rattle.rules.specs.declared.transient.TransientVerdict.TheVariants as Verdict
 use Rattle.rules.specs.declared.transient.Rationale.TheVariants as Why
-use Rattle.transient.specs.declared.criterion.Criterion.{Criterion}
-use Rattle.transient.specs.Criteria.{fits, for_pulse, polarity_in, JudgesAlike, Judges, JudgedBy}
+use Rattle.verdicts.specs.declared.criterion.Criterion.{Criterion}
+use Rattle.verdicts.specs.Criteria.{fits, for_pulse, polarity_in, JudgesAlike, Judges, JudgedBy}
 
 module _ {c : Criterion} {unit : TraceTimeUnit} where
   pub none-judged : JudgesAlike c Verdict.HazardCandidate Why.NoIntent → Judges c None unit

@@ -1,7 +1,7 @@
 // What is judged of the pulses of one component.
 ghost use Rattle.std.specs.Prelude.{◌≡◌, cond, Some, slice_index};
 ghost use Rattle.rules.specs.Codes.{polarity_code, verdict_code, rationale_code};
-ghost use Rattle.transient.specs.Criteria.{fits, polarity_in, Judges, JudgesAlike};
+ghost use Rattle.verdicts.specs.Criteria.{fits, polarity_in, Judges, JudgesAlike};
 
 use rules::transient::{PulsePolarity, Rationale, SignalIntent, TraceTimeUnit, TransientVerdict};
 
@@ -10,7 +10,7 @@ use rules::transient::{PulsePolarity, Rationale, SignalIntent, TraceTimeUnit, Tr
 // as a coin, so it is taken by index and not by a branch. The small fields stand together: bytes left free between fields are
 // copied too, in pieces that overlap, which takes longer than all the rest.
 #[derive(Clone, Copy)]
-pub(crate) struct Criterion {
+pub struct Criterion {
     pub smallest: u64,
     pub largest: u64,
     pub polarity: u8,
@@ -107,7 +107,7 @@ impl Criterion {
     }
 
     // The judgement by the intent that is registered, if one is, on pulses of a trace in this unit.
-    pub(crate) fn of(intent: Option<SignalIntent>, unit: TraceTimeUnit) -> Criterion
+    pub fn of(intent: Option<SignalIntent>, unit: TraceTimeUnit) -> Criterion
         ensures { Judges result intent unit }
     {
         match intent {
@@ -117,7 +117,7 @@ impl Criterion {
     }
 
     // The numbers of verdict and rationale for a pulse of this polarity, by its number, and width.
-    pub(crate) fn judge(&self, polarity: u8, width: u64) -> (u8, u8)
+    pub fn classify(&self, polarity: u8, width: u64) -> (u8, u8)
         ensures verdict { result.0 ≡ slice_index self.now.verdicts (cond (fits self.now polarity width) 1 0) }
         ensures rationale { result.1 ≡ slice_index self.now.rationales (cond (fits self.now polarity width) 1 0) }
     {

@@ -1,6 +1,6 @@
 -- Each intent has its criterion. Assumes nothing.
-use Rattle.transient.proofs.Criteria.{steady-judged, stable-judged, intentional-judged, maximum-judged}
-use Rattle.transient.proofs.criterion.Criterion.registered.Goals as goal
+use Rattle.verdicts.proofs.Criteria.{steady-judged, stable-judged, intentional-judged, maximum-judged}
+use Rattle.verdicts.proofs.criterion.Criterion.registered.Goals as goal
 
 pub returns-in-SteadyStateOnly : goal.returns-in-SteadyStateOnly
 returns-in-SteadyStateOnly c = rw c.in-SteadyStateOnly.is (steady-judged c.alike.ensures)

@@ -1,6 +1,6 @@
 -- Where no intent is registered, all pulses are judged alike. Assumes nothing.
-use Rattle.transient.proofs.Criteria.{none-judged}
-use Rattle.transient.proofs.criterion.Criterion.of.Goals as goal
+use Rattle.verdicts.proofs.Criteria.{none-judged}
+use Rattle.verdicts.proofs.criterion.Criterion.of.Goals as goal
 
 pub returns-in-None : goal.returns-in-None
 returns-in-None c = rw c.in-None.is (none-judged c.alike.ensures)

@@ -8,7 +8,7 @@ use Rattle.rules.specs.declared.transient.TraceTimeUnit.{TraceTimeUnit}
 use Rattle.rules.specs.declared.transient.TransientVerdict.{TransientVerdict}
 use Rattle.rules.specs.declared.transient.Rationale.{Rationale}
 use Rattle.rules.specs.declared.transient.SignalIntent.{SignalIntent}
-use Rattle.transient.specs.declared.criterion.Criterion.{Criterion}
+use Rattle.verdicts.specs.declared.criterion.Criterion.{Criterion}
 
 -- whether a pulse fits, by the number of its polarity and its width
 abbrev pub fits : Criterion → (polarity width : ℕ) → Bool

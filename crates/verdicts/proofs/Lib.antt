@@ -1,0 +1,2 @@
+-- The criterion of an intent judges as the intent does:
+pub mod Criteria
