@@ -25,9 +25,13 @@ static size_t keys_length(struct random *random)
 
 static void make_keys(struct random *random, uint64_t *keys, size_t count)
 {
-    uint64_t form = below(random, 4);
+    uint64_t form = below(random, 5);
     for (size_t i = 0; i < count; i++)
-        keys[i] = form == 0 ? i : form == 1 ? count - i : form == 2 ? below(random, 8) : odd_word(random);
+        keys[i] = form == 0   ? i
+                  : form == 1 ? count - i
+                  : form == 2 ? below(random, 8)
+                  : form == 3 ? crowded_word(i)
+                              : odd_word(random);
 }
 
 void make_sort(struct random *random, struct call *call)

@@ -36,6 +36,18 @@ uint64_t odd_word(struct random *random)
     }
 }
 
+uint64_t crowded_word(uint64_t number)
+{
+    switch (number % 3) {
+    case 0:
+        return number;
+    case 1:
+        return UINT64_MAX - number;
+    default: // an odd number, shifted by as many places as its remainder says
+        return (2 * number + 1) << (number % 39 + 1);
+    }
+}
+
 void fill(struct random *random, void *bytes, size_t count)
 {
     unsigned char *at = bytes;

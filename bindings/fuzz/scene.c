@@ -58,8 +58,8 @@ static uint64_t id_of(uint64_t form, uint64_t base, size_t place)
         return (base + place) * BUCKET_INVERSE;
     case 4:
         return (base << 9) + place;
-    case 5: // crowds at both ends of the range, and few between
-        return place % 3 == 0 ? place : place % 3 == 1 ? UINT64_MAX - place : (uint64_t)place << 40;
+    case 5:
+        return crowded_word(place);
     default: // an odd factor: no two are equal
         return base + place * 0x9E3779B97F4A7C15u;
     }

@@ -108,7 +108,8 @@ static void deep_trace(struct call *call, enum shape shape)
     }
 }
 
-// Edges over positions; keys and a row of positions that rise; starts and lengths of which the first two lie within.
+// Edges over positions; keys, which crowd where they are sorted and else rise, and a row of positions that rise; starts and lengths
+// of which the first two lie within.
 static void deep_pass(struct call *call, enum shape shape)
 {
     for (size_t i = 0; i < call->count; i++) {
@@ -119,6 +120,9 @@ static void deep_pass(struct call *call, enum shape shape)
         memset(list->content, 0, list->length * list->width);
         for (size_t k = 0; list->width == sizeof(size_t) && k < list->length; k++)
             places_of(call, i)[k] = source ? source_of(shape, k) : sink ? sink_of(shape, k) : k;
+        bool sorted = strcmp(list->name, "keys") == 0 && call->count == 3;
+        for (size_t k = 0; sorted && k < list->length; k++)
+            words_of(call, i)[k] = crowded_word(k);
     }
 }
 
