@@ -5,7 +5,7 @@ pub mod SideBySide
 pub mod Repeats
 pub mod ComponentSteps
 pub mod Named
-pub mod BucketSteps
+pub mod LookupSteps
 pub mod ConnectionSteps
 -- a scene that is accepted, and its Feedback:
 pub mod IndexSteps

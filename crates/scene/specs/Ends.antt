@@ -3,11 +3,12 @@ use Rattle.std.specs.Prelude.{Option, Some, None, Result, Ok, Err, IfOk, List, [
 use Rattle.rules.specs.Ordered.{ordered}
 use Rattle.rules.specs.Graph.{edges_between}
 use Rattle.rules.specs.Scene.{ComponentLists, component_lists, Connection, ConnectionLists, is_edge, edges_of, connections_of}
-use Rattle.rules.specs.Refusals.{Checked, accepted, scene_limits, bad_transfer, end_missing, connection_tests, first_refusal, rows}
+use Rattle.rules.specs.Refusals.{Checked, accepted, bad_transfer, end_missing, connection_tests, first_refusal, rows}
 use Rattle.rules.specs.Positions.{Positioned}
 use Rattle.rules.specs.declared.answers.Refusal.{Refusal}
 use Rattle.rules.specs.declared.answers.RefusalKind.{RefusalKind}
 use Rattle.rules.specs.declared.answers.RefusalKind.TheVariants.{TransferOutOfRange, EndMissing}
+use Rattle.scene.specs.Lookup.{Different}
 use Rattle.scene.specs.declared.connections.Ends.{Ends}
 
 abbrev pub connection : (source sink transfer : ℕ) → Connection
@@ -25,10 +26,10 @@ pub data LookedUp (ids : List ℕ) (n : Connection) : Result (Option Ends) Refus
   edge : (T (bad_transfer n) → ⊥) → (T (end_missing ids n) → ⊥) → T (is_edge n) → (a b : ℕ) → a < length ids → get_or ids a 0 ≡ n.source → b < length ids → get_or ids b 0 ≡ n.sink
       → LookedUp ids n (Ok (Some (record { start = a; stop = b })))
 
--- the ids are within the limits and ordered, the lists of connections have one length, and there is room for an edge from each
+-- the ids are ordered and all different, the lists of connections have one length, and there is room for an edge from each
 pub record Joined (ids order : List ℕ) (m : ConnectionLists) (starts stops : List ℕ) : Type 0 where
   pub sorted : order ≡ ordered ids
-  pub nodes_few : length ids ≤ scene_limits.components
+  pub different : Different ids
   pub sinks_length : length m.sinks ≡ length m.sources
   pub transfers_length : length m.transfers ≡ length m.sources
   pub starts_room : length m.sources ≤ length starts

@@ -4,7 +4,7 @@ pub mod Lent
 pub mod Room
 pub mod Steps
 pub mod Ends
-pub mod Buckets
+pub mod Lookup
 -- a scene that is accepted:
 pub mod Indexed
 pub mod Placed

@@ -2,11 +2,10 @@
 ghost use Rattle.rules.specs.Lent.{connections_lent};
 ghost use Rattle.scene.specs.Ends.{Joined, LookedUp, EndsFound, connection};
 
-use crate::buckets::{BUCKETS, IndexedIds, link_ids};
+use crate::lookup::{IndexedIds, SLOTS, fill_slots};
 use rules::answers::{Refusal, RefusalKind};
 use rules::kinds::TransferKind;
 use rules::lent::Connections;
-use rules::limits::MAX_COMPONENTS;
 
 // The positions of an edge's ends.
 #[derive(Clone, Copy)]
@@ -74,15 +73,12 @@ pub(crate) fn look_up_ends(
     requires { Joined ids.now order.now (connections_lent connections.now) starts.old stops.old }
     ensures { EndsFound ids.now (connections_lent connections.now) starts.new stops.new result }
 {
-    let mut head = [0usize; BUCKETS];
-    let mut next = [0usize; MAX_COMPONENTS];
-    let next = &mut next[..ids.len()];
-    link_ids(ids, &mut head, next);
+    let mut slots = [0u16; SLOTS];
+    fill_slots(ids, &mut slots);
     let index = IndexedIds {
         ids,
         order,
-        head: &head,
-        next,
+        slots: &slots,
     };
     look_up_rows(&index, connections, starts, stops)
 }

@@ -8,6 +8,6 @@ pub mod feedback; // feedback.rt: the call that writes list 4 alone
 pub mod positions; // positions.rt: the positions of an accepted scene, for calls over them
 mod sizes; // sizes.rt: the tests of lengths, 8, 1, 2 and 7
 mod components; // components.rt: the tests of components, 4 and 3
-mod buckets; // buckets.rt: the position of an id, by buckets
+mod lookup; // lookup.rt: the position of an id
 mod connections; // connections.rt: the tests of connections, 5 and 6, and the edges over positions
 mod index; // index.rt: the rows of a scene tested and indexed
