@@ -10,7 +10,14 @@ use library::traces::assess_transients;
 
 use crate::clock::{Best, timed};
 
-const NAMES: [&str; 2] = ["few components", "many components"];
+const NAMES: [&str; 6] = [
+    "one component",
+    "few components",
+    "many components",
+    "components in turn",
+    "components in runs",
+    "a component each",
+];
 const SIZES: [usize; 3] = [64, 512, 4096];
 /// The size that growth is held against.
 const BASE: usize = 512;
