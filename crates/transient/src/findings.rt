@@ -60,7 +60,7 @@ impl EventRow<'_> {
     {
         let mut at = start;
         for k in 0..self.pulses_end() {
-            let begins = self.begins_pulse(k);
+            let begins = self.begins_pulse_branchless(k);
             write_pulse(self.pulse(k), at, findings);
             at += usize::from(begins);
         }

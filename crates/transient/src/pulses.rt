@@ -35,8 +35,18 @@ impl EventRow<'_> {
 
     // Whether a pulse begins at a place. Where the row rises by component, the events between two of one component are
     // of that component too.
+    #[tactic(auto, unfolding(rules::specs::Windows::window_pulse))]
+    fn begins_pulse(self, k: usize) -> bool
+        requires { k + 2 < length self.positions.now }
+        ensures { result ≡ window_pulse (events_lent self.entry.trace.aligned.lent.events) self.entry.positions.now k }
+    {
+        let window = self.window(k);
+        window.first.component == window.third.component && window.is_pulse()
+    }
+
+    // The same without a branch, for a loop that goes on alike whether one begins or not.
     #[tactic(auto, unfolding(rules::specs::Windows::window_pulse, rules::specs::Pulses::is_pulse))]
-    pub(crate) fn begins_pulse(self, k: usize) -> bool
+    pub(crate) fn begins_pulse_branchless(self, k: usize) -> bool
         requires { k + 2 < length self.positions.now }
         ensures { result ≡ window_pulse (events_lent self.entry.trace.aligned.lent.events) self.entry.positions.now k }
     {
@@ -57,7 +67,8 @@ impl EventRow<'_> {
         self.window(k).pulse(self.trace.unit)
     }
 
-    // The place after the last one at which a pulse begins, or 0.
+    // The place after the last one at which a pulse begins, or 0. Where components are many and pulses few, it goes far back,
+    // and at nearly each place the components differ: so there the branches of begins_pulse are guessed right.
     pub(crate) fn pulses_end(self) -> usize
         ensures { EndsPulses (events_lent self.entry.trace.aligned.lent.events) self.entry.positions.now result }
     {

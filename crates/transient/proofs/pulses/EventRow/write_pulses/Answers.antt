@@ -20,7 +20,7 @@ pub overflow_add-at : goal.overflow_add-at
 overflow_add-at c = omega (
   arith,
   few (events_lent c.args.self.trace.aligned.lent.events) c.args.self.positions.now (c.loop-k.k + 1),
-  count-more (events_lent c.args.self.trace.aligned.lent.events) c.args.self.positions.now c.args.start c.loop-k.k c.begins_pulse-begins.result c.begins_pulse-begins.ensures c.from-at.ensures c.loop-k.invariant.counted,
+  count-more (events_lent c.args.self.trace.aligned.lent.events) c.args.self.positions.now c.args.start c.loop-k.k c.begins_pulse_branchless-begins.result c.begins_pulse_branchless-begins.ensures c.from-at.ensures c.loop-k.invariant.counted,
   c.pulses_end-k-end.ensures.inside c.loop-k.k c.loop-k-test.true,
 )
 
@@ -28,7 +28,7 @@ pub loop-k-preserved : goal.loop-k-preserved
 loop-k-preserved c = record {
   same = search rules;
   counted =
-      count-more (events_lent c.args.self.trace.aligned.lent.events) c.args.self.positions.now c.args.start c.loop-k.k c.begins_pulse-begins.result c.begins_pulse-begins.ensures c.from-at.ensures c.loop-k.invariant.counted;
+      count-more (events_lent c.args.self.trace.aligned.lent.events) c.args.self.positions.now c.args.start c.loop-k.k c.begins_pulse_branchless-begins.result c.begins_pulse_branchless-begins.ensures c.from-at.ensures c.loop-k.invariant.counted;
   listed =
       more-listed c.args.self c.requires c.loop-k.k (c.pulses_end-k-end.ensures.inside c.loop-k.k c.loop-k-test.true) c.loop-k.invariant.counted c.loop-k.invariant.listed c.pulse.ensures
       c.write_pulse.ensures.written;
