@@ -41,9 +41,9 @@ static struct edge edge_of(struct random *random, enum shape shape, size_t j, si
     }
 }
 
-// The library takes the upper bits of an id times 0x9E3779B97F4A7C15 for its bucket: of numbers in a row times the inverse of
-// that, modulo 2^64, these bits are the same.
-#define BUCKET_INVERSE 0xF1DE83E19937733Du
+// The library takes the upper bits of an id times 0x9E3779B97F4A7C15 for its first slot: of numbers in a row times the inverse
+// of that, modulo 2^64, these bits are the same.
+#define SPREAD_INVERSE 0xF1DE83E19937733Du
 
 static uint64_t id_of(uint64_t form, uint64_t base, size_t place)
 {
@@ -52,10 +52,10 @@ static uint64_t id_of(uint64_t form, uint64_t base, size_t place)
         return place + 1;
     case 1:
         return UINT64_MAX - place;
-    case 2: // all in one bucket of the library's index, the first
-        return (base % 1000 + place) * BUCKET_INVERSE;
+    case 2: // all of one first slot in the library's table of ids
+        return (base % 1000 + place) * SPREAD_INVERSE;
     case 3: // or another
-        return (base + place) * BUCKET_INVERSE;
+        return (base + place) * SPREAD_INVERSE;
     case 4:
         return (base << 9) + place;
     case 5:
