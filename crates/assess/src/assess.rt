@@ -1,32 +1,31 @@
 // The call that writes lists 3 to 8.
-ghost use Rattle.std.specs.Prelude.{◌≡◌, ◌≤◌, length};
-ghost use Rattle.rules.specs.Lent.{SameAssessment, SameLabels, SameProjection, SameReasons, assessment_lent, components_lent, connections_lent};
-ghost use Rattle.rules.specs.Refusals.{scene_limits};
-ghost use Rattle.rules.specs.Assess.{AssessCall};
+ghost use Rattle.std.specs.Prelude.{Result, Ok, ◌≡◌, ◌≤◌, length};
+ghost use Rattle.rules.specs.Lent.{SameAssessment, SameLabels, SameReasons, assessment_lent, components_lent, connections_lent};
+ghost use Rattle.rules.specs.Refusals.{accepted, scene_limits};
+ghost use Rattle.rules.specs.Scene.{scene_of};
+ghost use Rattle.rules.specs.Assess.{assess_checked, AssessCall, AssessedBy};
 ghost use Rattle.reasons.specs.Assessed.{Assessable, OutputRoom, ReasonsFound};
 ghost use Rattle.reasons.specs.Lent.{labels_lent, reasons_lent};
 ghost use Rattle.assess.specs.Answer.{assessed_of};
-ghost use Rattle.assess.specs.Ready.{assessment_room, grouped};
+ghost use Rattle.assess.specs.Ready.{assessment_room};
+ghost use Rattle.scene.specs.Placed.{PlacedRows};
 
 use crate::project::project_scene;
 use lengths::shortest;
 use projection::Projected;
 use reasons::{ReasonsAssessed, assess_reasons};
 use rules::answers::{Assessment, OutputList, Refusal};
-use rules::lent::{AssessmentLists, Components, LabelLists, ProjectionLists, ReasonLists, Scene};
+use rules::lent::{AssessmentLists, Components, LabelLists, ReasonLists, Scene};
 use scene::place::{Placed, SceneRoom};
 
 // The shortest lengths of lists 3 to 8.
 #[tactic(auto, unfolding(crate::specs::Ready::assessment_room))]
-fn room_of(
-    reasons: &ReasonLists<'_>,
-    feedback_ids: &[u64],
-    marks: &[u8],
-    projected: &ProjectionLists<'_>,
-    labels: &LabelLists<'_>,
-) -> [usize; 6]
-    ensures { result ≡ assessment_room (grouped reasons.now feedback_ids.now marks.now projected.now labels.now) }
+pub fn assessment_room(lists: &AssessmentLists<'_>) -> [usize; 6]
+    ensures { result ≡ assessment_room (assessment_lent lists.now) }
 {
+    let reasons = &lists.reasons;
+    let projected = &lists.projected;
+    let labels = &lists.labels;
     [
         shortest(&[
             reasons.kinds.len(),
@@ -35,8 +34,8 @@ fn room_of(
             reasons.minimums.len(),
             reasons.maximums.len(),
         ]),
-        feedback_ids.len(),
-        marks.len(),
+        lists.feedback_ids.len(),
+        lists.marks.len(),
         shortest(&[
             projected.sources.len(),
             projected.sinks.len(),
@@ -94,32 +93,31 @@ fn assessed(n: usize, reasons: ReasonsAssessed, projected: Projected) -> Assessm
     }
 }
 
-// Writes the reasons, Feedback ids, marks, projected edges, paths and labels of a scene, or refuses the scene and
-// leaves every list as it was. The lists are lent group by group: of a struct of these structs, made in the call for C, a
-// proof loses what the lists hold.
-pub fn assess_lists(
+// Writes the reasons, Feedback ids, marks, projected edges, paths and labels of an accepted scene, whose lists fit.
+pub fn assess_placed(
     scene: &Scene<'_>,
-    reasons: &mut ReasonLists<'_>,
-    feedback_ids: &mut [u64],
-    marks: &mut [u8],
-    projected: &mut ProjectionLists<'_>,
-    labels: &mut LabelLists<'_>,
-) -> Result<Assessment, Refusal>
-    ensures same_reasons { SameReasons reasons.old reasons.new }
-    ensures same_projection { SameProjection projected.old projected.new }
-    ensures same_labels { SameLabels labels.old labels.new }
-    ensures assessed { AssessCall scene_limits (components_lent scene.now.components) (connections_lent scene.now.connections) (grouped reasons.old feedback_ids.old marks.old projected.old labels.old) (grouped reasons.new feedback_ids.new marks.new projected.new labels.new) result }
+    placed: &Placed<'_>,
+    lists: &mut AssessmentLists<'_>,
+) -> Assessment
+    requires placed { PlacedRows scene.now.components.ids.now (connections_lent scene.now.connections) placed.now }
+    requires accepted { assess_checked scene_limits (components_lent scene.now.components) (connections_lent scene.now.connections) (assessment_lent lists.old) ≡ accepted }
+    ensures same { SameAssessment lists.old lists.new }
+    ensures assessed { AssessedBy accepted (scene_of (components_lent scene.now.components) (connections_lent scene.now.connections)) (assessment_lent lists.old) (assessment_lent lists.new) (Ok result) }
 {
-    let mut own = SceneRoom::new();
-    let room = room_of(reasons, feedback_ids, marks, projected, labels);
-    let placed = own.place(scene, OutputList::Reasons as usize, &room)?;
     let components = &scene.components;
-    let told = reason_scene(components, &placed, reasons, feedback_ids, labels);
-    let counts = project_scene(components, &placed, marks, projected);
-    Ok(assessed(components.ids.len(), told, counts))
+    let told = reason_scene(
+        components,
+        placed,
+        &mut lists.reasons,
+        lists.feedback_ids,
+        &mut lists.labels,
+    );
+    let counts = project_scene(components, placed, lists.marks, &mut lists.projected);
+    assessed(components.ids.len(), told, counts)
 }
 
-// The same with its lists in one struct.
+// Writes the reasons, Feedback ids, marks, projected edges, paths and labels of a scene, or refuses the scene and
+// leaves every list as it was.
 pub fn assess_scene(
     scene: &Scene<'_>,
     lists: &mut AssessmentLists<'_>,
@@ -127,12 +125,8 @@ pub fn assess_scene(
     ensures same { SameAssessment lists.old lists.new }
     ensures assessed { AssessCall scene_limits (components_lent scene.now.components) (connections_lent scene.now.connections) (assessment_lent lists.old) (assessment_lent lists.new) result }
 {
-    assess_lists(
-        scene,
-        &mut lists.reasons,
-        lists.feedback_ids,
-        lists.marks,
-        &mut lists.projected,
-        &mut lists.labels,
-    )
+    let mut own = SceneRoom::new();
+    let room = assessment_room(lists);
+    let placed = own.place(scene, OutputList::Reasons as usize, &room)?;
+    Ok(assess_placed(scene, &placed, lists))
 }

@@ -4,6 +4,7 @@ use Rattle.std.specs.Prelude.{◌≡◌}
 use Rattle.rules.specs.Scene.{ComponentLists, ConnectionLists, component_lists, connection_lists}
 use Rattle.rules.specs.Describe.{DescribeLists, describe_lists}
 use Rattle.rules.specs.Assess.{AssessLists, assess_lists}
+use Rattle.rules.specs.Analyze.{AnalyzeLists}
 use Rattle.rules.specs.Pulses.{EventLists, event_lists}
 use Rattle.rules.specs.Verdicts.{ContractLists, contract_lists, FindingLists, finding_lists}
 use Rattle.rules.specs.Traces.{TraceLists, trace_lists}
@@ -20,6 +21,7 @@ use Rattle.rules.specs.declared.lent.ReasonLists.{ReasonLists}
 use Rattle.rules.specs.declared.lent.ProjectionLists.{ProjectionLists}
 use Rattle.rules.specs.declared.lent.LabelLists.{LabelLists}
 use Rattle.rules.specs.declared.lent.AssessmentLists.{AssessmentLists}
+use Rattle.rules.specs.declared.lent.SceneLists.{SceneLists}
 use Rattle.rules.specs.declared.lent.Findings.{Findings}
 
 abbrev pub components_lent : Components → ComponentLists
@@ -42,6 +44,9 @@ description_lent x = describe_lists x.edges.sources.now x.edges.sinks.now x.edge
 
 abbrev pub assessment_lent : AssessmentLists → AssessLists
 assessment_lent x = assess_lists x.reasons.kinds.now x.reasons.components.now x.reasons.blocks.now x.reasons.minimums.now x.reasons.maximums.now x.feedback_ids.now x.marks.now x.projected.sources.now x.projected.sinks.now x.projected.inverted.now x.projected.minimums.now x.projected.maximums.now x.projected.starts.now x.projected.lengths.now x.projected.path_ids.now x.labels.settled.now x.labels.lows.now x.labels.highs.now
+
+abbrev pub analysis_lent : SceneLists → AnalyzeLists
+analysis_lent x = record { description = description_lent x.description; assessment = assessment_lent x.assessment }
 
 abbrev pub findings_lent : Findings → FindingLists
 findings_lent x = finding_lists x.components.now x.polarities.now x.units.now x.start_ticks.now x.end_ticks.now x.widths.now x.steady.now x.baselines.now x.starts.now x.ends.now x.verdicts.now x.rationales.now
@@ -117,3 +122,7 @@ pub record SameAssessment (old new : AssessmentLists) : Type 0 where
   pub marks : new.marks.ghost_name ≡ old.marks.ghost_name
   pub projected : SameProjection old.projected new.projected
   pub labels : SameLabels old.labels new.labels
+
+pub record SameScene (old new : SceneLists) : Type 0 where
+  pub description : SameDescription old.description new.description
+  pub assessment : SameAssessment old.assessment new.assessment

@@ -19,6 +19,7 @@ pub mod Refusals
 pub mod Feedback
 pub mod Describe
 pub mod Assess
+pub mod Analyze
 -- recorded pulses, also by windows, the trace call, and recording:
 pub mod Pulses
 pub mod Windows

@@ -158,3 +158,10 @@ pub struct Assessment {
     pub projected: u64,
     pub path_ids: u64,
 }
+
+// What the call says that writes lists 0 to 8.
+#[derive(Clone, Copy, PartialEq, Eq, Debug)]
+pub struct Analysis {
+    pub description: Description,
+    pub assessment: Assessment,
+}

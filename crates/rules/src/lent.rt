@@ -1,9 +1,10 @@
-// The number lists that calls are lent, one for each field: the C interface has a pointer and a length for each, so records
-// are not one list of structs. Those that a call reads are handed on by copies of the references; those that it writes are
+// The number lists that calls are lent, one for each field, in structs laid out as C lays them out: a list is a pointer, then
+// the number of its entries. Those that a call reads are handed on by copies of the references; those that it writes are
 // lent for the call, and how many entries of them are used is what the call answers.
 
 // The components of a scene: a number list for each field, as long as one another where the tests of a call have passed. That
 // they are is asked where it is used: public functions take components untested, and each pass needs other columns.
+#[repr(C)]
 #[derive(Clone, Copy)]
 pub struct Components<'a> {
     pub ids: &'a [u64],
@@ -16,6 +17,7 @@ pub struct Components<'a> {
 }
 
 // The connections of a scene, likewise.
+#[repr(C)]
 #[derive(Clone, Copy)]
 pub struct Connections<'a> {
     pub sources: &'a [u64],
@@ -23,6 +25,7 @@ pub struct Connections<'a> {
     pub transfers: &'a [u8],
 }
 
+#[repr(C)]
 #[derive(Clone, Copy)]
 pub struct Scene<'a> {
     pub components: Components<'a>,
@@ -30,6 +33,7 @@ pub struct Scene<'a> {
 }
 
 // The events of a trace.
+#[repr(C)]
 #[derive(Clone, Copy)]
 pub struct Events<'a> {
     pub ticks: &'a [u64],
@@ -38,6 +42,7 @@ pub struct Events<'a> {
 }
 
 // The contracts by which a trace is judged.
+#[repr(C)]
 #[derive(Clone, Copy)]
 pub struct Contracts<'a> {
     pub components: &'a [u64],
@@ -50,6 +55,7 @@ pub struct Contracts<'a> {
 }
 
 // A trace: the number of its time unit, its events and its contracts.
+#[repr(C)]
 #[derive(Clone, Copy)]
 pub struct Trace<'a> {
     pub unit: u8,
@@ -58,6 +64,7 @@ pub struct Trace<'a> {
 }
 
 // List 0.
+#[repr(C)]
 #[derive(Drop)]
 pub struct TimedEdgeLists<'a> {
     pub sources: &'a mut [u64],
@@ -68,6 +75,7 @@ pub struct TimedEdgeLists<'a> {
 }
 
 // List 1.
+#[repr(C)]
 #[derive(Drop)]
 pub struct DeviceLists<'a> {
     pub components: &'a mut [u64],
@@ -79,6 +87,7 @@ pub struct DeviceLists<'a> {
 }
 
 // List 2.
+#[repr(C)]
 #[derive(Drop)]
 pub struct EvidenceLists<'a> {
     pub kinds: &'a mut [u8],
@@ -89,6 +98,7 @@ pub struct EvidenceLists<'a> {
 }
 
 // The lists that `describe_scene` writes.
+#[repr(C)]
 #[derive(Drop)]
 pub struct DescriptionLists<'a> {
     pub edges: TimedEdgeLists<'a>,
@@ -97,6 +107,7 @@ pub struct DescriptionLists<'a> {
 }
 
 // List 3.
+#[repr(C)]
 #[derive(Drop)]
 pub struct ReasonLists<'a> {
     pub kinds: &'a mut [u8],
@@ -107,6 +118,7 @@ pub struct ReasonLists<'a> {
 }
 
 // Lists 6 and 7: the fields of the projected edges, and the ids of their paths.
+#[repr(C)]
 #[derive(Drop)]
 pub struct ProjectionLists<'a> {
     pub sources: &'a mut [u64],
@@ -120,6 +132,7 @@ pub struct ProjectionLists<'a> {
 }
 
 // List 8.
+#[repr(C)]
 #[derive(Drop)]
 pub struct LabelLists<'a> {
     pub settled: &'a mut [u8],
@@ -128,6 +141,7 @@ pub struct LabelLists<'a> {
 }
 
 // The lists that `assess_scene` writes: 3 to 8.
+#[repr(C)]
 #[derive(Drop)]
 pub struct AssessmentLists<'a> {
     pub reasons: ReasonLists<'a>,
@@ -137,7 +151,16 @@ pub struct AssessmentLists<'a> {
     pub labels: LabelLists<'a>,
 }
 
+// The lists that `analyze_scene` writes: 0 to 8.
+#[repr(C)]
+#[derive(Drop)]
+pub struct SceneLists<'a> {
+    pub description: DescriptionLists<'a>,
+    pub assessment: AssessmentLists<'a>,
+}
+
 // List 9.
+#[repr(C)]
 #[derive(Drop)]
 pub struct Findings<'a> {
     pub components: &'a mut [u64],

@@ -1,14 +1,15 @@
 // The calls for C, which hands over its lists one by one: a list is a pointer and the number of its entries, and an answer
 // is its numbers. No list that is written may overlap another. A call keeps nothing after it returns.
-ghost use Rattle.std.specs.Prelude.{Result, ◌≡◌, [], ◌∷◌, length};
+ghost use Rattle.std.specs.Prelude.{Result, ◌≡◌, [], ◌∷◌};
 ghost use Rattle.rules.specs.Feedback.{FeedbackCall, feedback_numbers};
-ghost use Rattle.rules.specs.Scene.{component_lists, connection_lists};
-ghost use Rattle.rules.specs.Refusals.{scene_limits, check_scene, refusal_number, refusal_place, room_outputs};
+ghost use Rattle.rules.specs.Lent.{components_lent, connections_lent};
+ghost use Rattle.scene.specs.Lent.{outputs_lent};
+ghost use Rattle.rules.specs.Refusals.{scene_limits, check_scene, refusal_number, refusal_place};
 ghost use Rattle.rules.specs.declared.answers.FeedbackListed.{FeedbackListed};
 ghost use Rattle.rules.specs.declared.answers.Refusal.{Refusal};
 
-use crate::lent::scene_of;
 use rules::answers::{FeedbackListed, Refusal};
+use rules::lent::Scene;
 use scene::check::check_scene;
 use scene::feedback::feedback_scene;
 
@@ -37,26 +38,14 @@ impl From<Result<(), Refusal>> for CheckedNumbers {
 // check_scene for C.
 #[unsafe(no_mangle)]
 pub extern "C" fn sizhbanto_check_scene(
-    ids: &[u64],
-    kinds: &[u8],
-    delays: &[u16],
-    locked: &[u8],
-    xs: &[i32],
-    ys: &[i32],
-    zs: &[i32],
-    sources: &[u64],
-    sinks: &[u64],
-    transfers: &[u8],
+    scene: &Scene<'_>,
     first: usize,
     room: &[usize],
 ) -> CheckedNumbers
-    ensures number { result.number ≡ refusal_number (check_scene scene_limits (component_lists ids.now kinds.now delays.now locked.now xs.now ys.now zs.now) (connection_lists sources.now sinks.now transfers.now) (room_outputs (length ids.now) (length sources.now) first room.now)) }
-    ensures place { result.place ≡ refusal_place (check_scene scene_limits (component_lists ids.now kinds.now delays.now locked.now xs.now ys.now zs.now) (connection_lists sources.now sinks.now transfers.now) (room_outputs (length ids.now) (length sources.now) first room.now)) }
+    ensures number { result.number ≡ refusal_number (check_scene scene_limits (components_lent scene.now.components) (connections_lent scene.now.connections) (outputs_lent scene.now first room.now)) }
+    ensures place { result.place ≡ refusal_place (check_scene scene_limits (components_lent scene.now.components) (connections_lent scene.now.connections) (outputs_lent scene.now first room.now)) }
 {
-    let scene = scene_of(
-        ids, kinds, delays, locked, xs, ys, zs, sources, sinks, transfers,
-    );
-    CheckedNumbers::from(check_scene(&scene, first, room))
+    CheckedNumbers::from(check_scene(scene, first, room))
 }
 
 // The number and place of a refusal, 0 and 0 where the scene is accepted; then how many ids are listed and how many
@@ -93,22 +82,10 @@ impl From<Result<FeedbackListed, Refusal>> for FeedbackNumbers {
 // feedback_scene for C.
 #[unsafe(no_mangle)]
 pub extern "C" fn sizhbanto_feedback_scene(
-    ids: &[u64],
-    kinds: &[u8],
-    delays: &[u16],
-    locked: &[u8],
-    xs: &[i32],
-    ys: &[i32],
-    zs: &[i32],
-    sources: &[u64],
-    sinks: &[u64],
-    transfers: &[u8],
+    scene: &Scene<'_>,
     feedback_ids: &mut [u64],
 ) -> FeedbackNumbers
-    ensures { (answer : Result FeedbackListed Refusal) × FeedbackCall scene_limits (component_lists ids.now kinds.now delays.now locked.now xs.now ys.now zs.now) (connection_lists sources.now sinks.now transfers.now) feedback_ids.old feedback_ids.new answer × (result.number ∷ result.place ∷ result.feedback ∷ result.reasons ∷ [] ≡ feedback_numbers answer) }
+    ensures { (answer : Result FeedbackListed Refusal) × FeedbackCall scene_limits (components_lent scene.now.components) (connections_lent scene.now.connections) feedback_ids.old feedback_ids.new answer × (result.number ∷ result.place ∷ result.feedback ∷ result.reasons ∷ [] ≡ feedback_numbers answer) }
 {
-    let scene = scene_of(
-        ids, kinds, delays, locked, xs, ys, zs, sources, sinks, transfers,
-    );
-    FeedbackNumbers::from(feedback_scene(&scene, feedback_ids))
+    FeedbackNumbers::from(feedback_scene(scene, feedback_ids))
 }

@@ -4,11 +4,11 @@
 #![tactic(auto)]
 
 pub mod checks; // checks.rt: the checks of a scene, and list 4 alone
+pub mod analysis; // analysis.rt: lists 0 to 8
 pub mod description; // description.rt: lists 0, 1 and 2
 pub mod assessment; // assessment.rt: lists 3 to 8
 pub mod path; // path.rt: the path of a projected edge
 pub mod traces; // traces.rt: list 9, and recording
-mod lent; // lent.rt: the lists of a scene as one struct
 // The passes that have no limit of size, for those who hold them against others:
 pub mod ordering; // ordering.rt: the order of keys, and the search in it
 pub mod marking; // marking.rt: strongly connected components

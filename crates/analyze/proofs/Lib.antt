@@ -1,0 +1,2 @@
+-- Lemmas of the call
+pub mod SceneAnalyze

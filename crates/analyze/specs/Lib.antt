@@ -1,0 +1,2 @@
+-- What the call asks of its parts; what it promises is in the crate rules
+pub mod Analyze
