@@ -38,8 +38,11 @@ impl SceneRoom {
         }
     }
 
-    // Tests a scene in document 01's order, with the output lists from the list of number first on, of which room has
-    // the shortest lengths, and places it where it is accepted.
+    /// Tests a scene in the order of the refusals, with the output lists from the list of number `first` on, of which
+    /// `room` has the shortest lengths, and places it where it is accepted.
+    ///
+    /// What the room holds afterwards is open, under a refusal too: only the `Placed` reads it, and a room that holds
+    /// anything serves the next call.
     pub fn place(
         &mut self,
         scene: &Scene<'_>,

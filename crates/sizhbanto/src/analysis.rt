@@ -1,5 +1,4 @@
-// The call for C that writes lists 0 to 8. C hands over the structs of lists by pointers, and an answer is its numbers. No
-// list that is written may overlap another, or one of the structs. The call keeps nothing after it returns.
+// The call for C that writes lists 0 to 8.
 ghost use Rattle.std.specs.Prelude.{Result, ◌≡◌, [], ◌∷◌};
 ghost use Rattle.rules.specs.Lent.{analysis_lent, components_lent, connections_lent, SameScene};
 ghost use Rattle.rules.specs.Refusals.{scene_limits};

@@ -1,5 +1,4 @@
-// The calls for C, which hands over its lists one by one: a list is a pointer and the number of its entries, and an answer
-// is its numbers. No list that is written may overlap another. A call keeps nothing after it returns.
+// The calls for C that only check a scene, and that write list 4 alone.
 ghost use Rattle.std.specs.Prelude.{Result, ◌≡◌, [], ◌∷◌};
 ghost use Rattle.rules.specs.Feedback.{FeedbackCall, feedback_numbers};
 ghost use Rattle.rules.specs.Lent.{components_lent, connections_lent};

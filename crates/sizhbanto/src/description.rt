@@ -1,5 +1,4 @@
-// The call for C, which hands over its lists one by one: a list is a pointer and the number of its entries, and an answer
-// is its numbers. No list that is written may overlap another. The call keeps nothing after it returns.
+// The call for C that writes lists 0, 1 and 2.
 ghost use Rattle.std.specs.Prelude.{Result, ◌≡◌, [], ◌∷◌};
 ghost use Rattle.rules.specs.Lent.{components_lent, connections_lent, description_lent, SameDescription};
 ghost use Rattle.rules.specs.Refusals.{scene_limits};

@@ -1,6 +1,8 @@
-// The calls for C, in one archive. A list is a pointer and the number of its entries, and an answer is its numbers. No
-// list that is written may overlap another. A call keeps nothing after it returns.
-// number and place stand in each answer that may be a refusal: C reads them there by name, not in a struct inside.
+//! The calls for C, in one archive. A list is a pointer and the number of its entries; a call with many lists is handed
+//! the structs of lists of the crate `rules` by pointers. An answer is its numbers, since C has no `Result`: number and
+//! place stand in each answer that may be a refusal, so that C reads them there by name. No list that is written may
+//! overlap another, or one of the structs. A call keeps nothing after it returns, and changes no pointer and no length
+//! of a struct that it is lent.
 #![tactic(auto)]
 
 pub mod checks; // checks.rt: the checks of a scene, and list 4 alone

@@ -1,5 +1,4 @@
-// The trace call and recording for C, which hands over its lists one by one: a list is a pointer and the number of its
-// entries, and an answer is its numbers. No list that is written may overlap another. A call keeps nothing after it returns.
+// The trace call and recording for C.
 ghost use Rattle.std.specs.Prelude.{Result, ◌≡◌, [], ◌∷◌};
 ghost use Rattle.rules.specs.Lent.{findings_lent, trace_lent, SameFindings};
 ghost use Rattle.rules.specs.Traces.{trace_limits, transient_numbers, transient_tallies, TraceCall};
