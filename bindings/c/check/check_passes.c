@@ -1,5 +1,5 @@
 // The passes that have no limit of size.
-#include "../sizhbanto.h"
+#include "sizhbanto.h"
 #include "check.h"
 
 static void sorted_and_found(void) {

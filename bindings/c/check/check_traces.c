@@ -113,17 +113,18 @@ static void low_pulses(void) {
           SIZHBANTO_RATIONALE_POWERED_BUT_LOW);
 }
 
-// Polarity and unit of an intentional pulse are told apart.
+// Polarity and unit of an intentional pulse are told apart: both fit, or one is wrong.
 static void polarity_and_unit(void) {
-    for (size_t wrong = 0; wrong < 2; wrong += 1) {
+    for (size_t wrong = 0; wrong < 3; wrong += 1) {
         new_trace();
+        trace.unit = SIZHBANTO_TRACE_TIME_UNIT_GAME_TICK;
         high_pulse(&trace, 0);
         widths(SIZHBANTO_SIGNAL_INTENT_INTENTIONAL_PULSE, 0, 0, UINT64_MAX);
-        trace.polarities[0] = wrong == 0;
-        trace.units[0] = wrong == 1;
+        trace.polarities[0] = wrong == 1 ? SIZHBANTO_PULSE_POLARITY_LOW : SIZHBANTO_PULSE_POLARITY_HIGH;
+        trace.units[0] = wrong == 2 ? SIZHBANTO_TRACE_TIME_UNIT_REDSTONE_TICK : SIZHBANTO_TRACE_TIME_UNIT_GAME_TICK;
         lend_findings(&findings, 3);
         CHECK(found(assess_it(), 1));
-        HOLDS(uint8_t, findings.rationales, SIZHBANTO_RATIONALE_PULSE_DIFFERS);
+        HOLDS(uint8_t, findings.rationales, wrong ? SIZHBANTO_RATIONALE_PULSE_DIFFERS : SIZHBANTO_RATIONALE_PULSE_FITS);
     }
 }
 
@@ -132,10 +133,11 @@ static void recording(void) {
     new_trace();
     high_pulse(&trace, 3);
     contract(&trace, 3, SIZHBANTO_SIGNAL_INTENT_STABLE);
+    contract(&trace, 5, SIZHBANTO_SIGNAL_INTENT_STABLE);
     lend_findings(&findings, 6);
     SizhbantoTrace lent = lent_trace(&trace);
     SizhbantoRecordedTrace got = record(held, &lent, &findings);
-    CHECK(got.number == 0 && got.place == 0 && got.findings == 1 && got.contracts_applied == 1);
+    CHECK(got.number == 0 && got.place == 0 && got.findings == 1 && got.contracts_applied == 2);
     CHECK(got.held.traces == 1 && got.held.findings == 1 && tallied(got.held.tallies, 0, 0, 0, 1, 0));
     trace.contract_components[0] = 4;
     trace.components[0] = trace.components[1] = trace.components[2] = 8;

@@ -3,7 +3,7 @@
 #ifndef SCENE_H
 #define SCENE_H
 
-#include "../sizhbanto.h"
+#include "sizhbanto.h"
 #include "check.h"
 
 enum { SCENE_ROOM = 600, CONNECTION_ROOM = 2100, NO_DELAY = SIZHBANTO_ABSENT_DELAY };

@@ -2,7 +2,7 @@
 #ifndef TRACE_H
 #define TRACE_H
 
-#include "../sizhbanto.h"
+#include "sizhbanto.h"
 #include "check.h"
 
 enum { EVENT_ROOM = 4200, CONTRACT_ROOM = 600 };
