@@ -1,17 +1,17 @@
 // The calls of the redstone timing overlay for C99 and C++11.
 //
-// A list is a pointer and the number of its entries. The scene calls and the trace calls are lent structs of lists: what
-// is read by a pointer to const, what is written by another. Presumed of a caller is that
+// A list is a pointer and the number of its entries. The scene calls and the trace calls are lent structs of lists:
+// what is read by a pointer to const, what is written by another. Presumed of a caller is that
 //   the pointer of a list leads to so many entries; where there are none it may be NULL
 //   the pointer to a struct leads to one, so it is never NULL
 //   no list that is written overlaps another list of the call, or one of its structs
-// A call writes entries alone, and leaves every pointer and length of a struct as it was. Nothing is kept after a call.
-// Refused calls answer a number and a place and leave every list as it was. Codes may have any value: those out of range
-// are refused. docs/PERFORMANCE.md says how much stack a call takes.
+// A call writes entries alone and leaves every pointer and length of a struct as it was; it keeps nothing. Refused
+// calls answer a number and a place and leave every list as it was. Codes may have any value: those out of range are
+// refused. docs/PERFORMANCE.md says how much stack a call takes.
 //
 // N is how many components there are, M connections, E events, C contracts, H findings held by a record, 0 in a call
-// without one. A list of several fields is one number list for each field, each at least as long as is said, else refusal
-// 7 with the list's number. Entries past those used keep their values.
+// without one. A list of several fields is one number list for each field, each at least as long as is said, else
+// refusal 7 with the list's number. Entries past those used keep their values.
 //
 // This file is the one place for widths and for the order of lists. bindings/rust and bindings/python read it, and
 // bindings/check_header holds it against the exports. So its lines have fixed forms:
@@ -26,9 +26,9 @@
 //   a parameter:                    `type name`, or a list with `, ` in place of `; ` and nothing after it, or a struct
 //   a struct whose lists are read:  `const SizhbantoName *name`
 //   a struct with lists to write:   `SizhbantoName *name`
-//   `// name: entries` or `// list number, name: entries` among fields or parameters: what the lists are that follow, and
-//   how many entries each needs, up to the next such line or what is no list
-//   SIZHBANTO_SIZE(SizhbantoName, bytes) and SIZHBANTO_OFFSET(SizhbantoName, field, bytes): the layout; all other lines
+//   `// name: entries` or `// list number, name: entries` among fields or parameters: what the lists are that follow,
+//   and how many entries each needs, up to the next such line or what is no list
+//   SIZHBANTO_SIZE(SizhbantoName, bytes) and SIZHBANTO_OFFSET(SizhbantoName, field, bytes): the layout; other lines
 //   that begin with # are for the compiler alone
 #ifndef SIZHBANTO_H
 #define SIZHBANTO_H
@@ -166,8 +166,8 @@ enum SizhbantoPulsePolarity {
     SIZHBANTO_PULSE_POLARITY_LOW = 1,
 };
 
-// intents of contracts: the first uses no other field; Stable uses powered; IntentionalPulse polarity, unit, smallest and
-// largest; MaximumPulseWidth polarity, unit and largest; fields that are not used are not read
+// intents of contracts: the first uses no other field; Stable uses powered; IntentionalPulse polarity, unit, smallest
+// and largest; MaximumPulseWidth polarity, unit and largest; fields that are not used are not read
 enum SizhbantoSignalIntent {
     SIZHBANTO_SIGNAL_INTENT_STEADY_STATE_ONLY = 0,
     SIZHBANTO_SIGNAL_INTENT_STABLE = 1,
@@ -199,8 +199,8 @@ enum SizhbantoRationale {
     SIZHBANTO_RATIONALE_PAST_TOLERANCE = 9,
 };
 
-// What is lent. Each list stands with the entries that it needs; those of one kind of entry that are read are as long as
-// one another, else refusal 8.
+// What is lent. Each list stands with the entries that it needs; the lists of components are as long as one another, and
+// so are those of connections, events and contracts, else refusal 8.
 
 typedef struct SizhbantoComponents {
     // components: N
@@ -640,16 +640,15 @@ SizhbantoAnalysisNumbers sizhbanto_analyze_scene(
     SizhbantoSceneLists *lists
 );
 
-// The two parts of sizhbanto_analyze_scene as calls of their own, lists 0 to 2 and lists 3 to 8. A scene that one of the
-// three refuses is refused alike by all, but for lists that are too short: each tests those alone that it writes, so one
-// part may write where the other, and sizhbanto_analyze_scene, answer 7. Lists written by both hold what the one call
-// writes.
+// Lists 0 to 2: the first of the two parts of sizhbanto_analyze_scene as calls of their own. They write what that
+// writes. A scene that one of the three refuses is refused alike by all, but for lists that are too short: each tests
+// those alone that it writes, so one part may write where the other, and sizhbanto_analyze_scene, answer 7.
 SizhbantoDescriptionNumbers sizhbanto_describe_scene(
     const SizhbantoScene *scene,
     SizhbantoDescriptionLists *lists
 );
 
-// The other part, lists 3 to 8.
+// Lists 3 to 8: the other part.
 SizhbantoSceneNumbers sizhbanto_assess_scene(
     const SizhbantoScene *scene,
     SizhbantoAssessmentLists *lists

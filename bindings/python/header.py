@@ -5,8 +5,8 @@ from collections import namedtuple
 
 PATH = os.path.join(os.path.dirname(os.path.abspath(__file__)), "../c/sizhbanto.h")
 
-# constants and enums map names to numbers, structs to their fields, functions to their result and parameters; layout has
-# a triple for each line of it: struct, field or None, bytes
+# constants and enums map names to numbers, structs to their fields, functions to their result and parameters; layout
+# has a triple for each of its lines: struct, field or None, bytes
 Header = namedtuple("Header", "constants enums structs functions layout")
 # a struct's field or a function's parameter. form is what it is: a value, a list or a pointer to a struct of lists.
 # count is that of an array, else None; group has a list's `// name: entries`, else None

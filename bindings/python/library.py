@@ -1,4 +1,4 @@
-"""The calls of bindings/c/sizhbanto.h by ctypes: widths, and the order of lists and fields, are read from the header."""
+"""The calls of bindings/c/sizhbanto.h by ctypes: widths and the order of fields and lists are read from the header."""
 import ctypes
 import os
 import re
@@ -7,7 +7,7 @@ import header
 
 PATH = os.path.join(os.path.dirname(os.path.abspath(__file__)), "../../target/bindings/libsizhbanto.so")
 INTEGERS = ["int32", "uint8", "uint16", "uint32", "uint64"]
-TYPES = {"bool": ctypes.c_bool, "size_t": ctypes.c_size_t, **{f"{own}_t": getattr(ctypes, f"c_{own}") for own in INTEGERS}}
+TYPES = {f"{own}_t": getattr(ctypes, f"c_{own}") for own in INTEGERS} | {"bool": ctypes.c_bool, "size_t": ctypes.c_size_t}
 LISTS = (header.READ_LIST, header.WRITTEN_LIST)
 
 
@@ -58,7 +58,7 @@ class Library:
         return struct
 
     def room(self, name, **sizes):
-        """A struct for a call to write: each list is as long as the header says, where N, M, E and H are these sizes."""
+        """A struct for a call to write: each list as long as the header says, where N, M, E and H are these sizes."""
         struct = self.types[name]()
         for inner, field in self.lists(struct):
             self.lend(inner, field.name, [0] * needed(field.group, sizes))

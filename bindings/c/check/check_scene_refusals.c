@@ -50,9 +50,9 @@ static bool checked_by(uint32_t number, uint64_t place) {
 }
 
 // All calls refuse the scene alike.
-#define REFUSED(number, place)                                                              \
-    take_back();                                                                            \
-    lend_lists(&lists, &scene, 1);                                                          \
+#define REFUSED(number, place)                                                                      \
+    take_back();                                                                                    \
+    lend_lists(&lists, &scene, 1);                                                                  \
     CHECK(analyzed_by(number, place) && described_by(number, place) && assessed_by(number, place)); \
     CHECK(fed_back_by(number, place) && checked_by(number, place) && all_kept())
 
@@ -111,10 +111,10 @@ static void rooms(void) {
     good();
     take_back();
     lend_lists(&lists, &scene, 0);
-#define SHORT(refused, list, name)                                                                 \
-    lists.name##_length -= 1;                                                                      \
-    CHECK(refused(SIZHBANTO_REFUSAL_NUMBER_LIST_TOO_SHORT, list));                                 \
-    CHECK(analyzed_by(SIZHBANTO_REFUSAL_NUMBER_LIST_TOO_SHORT, list));                             \
+#define SHORT(refused, list, name)                                     \
+    lists.name##_length -= 1;                                          \
+    CHECK(refused(SIZHBANTO_REFUSAL_NUMBER_LIST_TOO_SHORT, list));     \
+    CHECK(analyzed_by(SIZHBANTO_REFUSAL_NUMBER_LIST_TOO_SHORT, list)); \
     lists.name##_length += 1;
 #define SHORT_DESCRIBED(list, name) SHORT(described_by, list, name)
 #define SHORT_ASSESSED(list, name) SHORT(assessed_by, list, name)
@@ -147,8 +147,8 @@ static void many_short(void) {
     CHECK(all_kept());
 }
 
-// One torch and no connection, and list 3 alone is too short: the first part writes lists 1 and 2, the other is refused,
-// and so is the one call, which writes nothing.
+// One torch and no connection, and list 3 alone is too short: the first part writes lists 1 and 2, the other is
+// refused, and so is the one call, which writes nothing.
 static void other_part_short(void) {
     memset(&scene, 0, sizeof scene);
     component(&scene, 8, SIZHBANTO_BLOCK_KIND_REDSTONE_TORCH, NO_DELAY);

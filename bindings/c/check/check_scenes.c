@@ -101,7 +101,7 @@ static void empty_without_lists(void) {
     SizhbantoAnalysisNumbers refused = analyze(&nothing, &none);
     CHECK(refused.number == SIZHBANTO_REFUSAL_NUMBER_LIST_TOO_SHORT && refused.place == 3);
     take_back();
-#define LEND_REASONS(name)             \
+#define LEND_REASONS(name)                     \
     none.assessment.reasons.name##_length = 1; \
     none.assessment.reasons.name = lend(1, sizeof *none.assessment.reasons.name);
     LEND_REASONS(kinds)
@@ -126,11 +126,7 @@ static void torch_without_connections(void) {
     SizhbantoScene lent = lent_scene(&scene);
     memset(&lent.connections, 0, sizeof lent.connections);
     memset(&lists.description.edges, 0, sizeof lists.description.edges);
-    SizhbantoProjectionLists *lent_projected = &lists.assessment.projected;
-    uint64_t *path_ids = lent_projected->path_ids;
-    memset(lent_projected, 0, sizeof *lent_projected);
-    lent_projected->path_ids = path_ids;
-    lent_projected->path_ids_length = 1;
+    lists.assessment.projected = (SizhbantoProjectionLists){.path_ids = projected->path_ids, .path_ids_length = 1};
     CHECK(analyze(&lent, &lists).number == 0);
 }
 

@@ -33,8 +33,8 @@ static bool recorded_by(uint32_t number, uint64_t place) {
            memcmp(&got.held, &held, sizeof held) == 0;
 }
 
-#define REFUSED(number, place)                                              \
-    lend_findings(&findings, held.findings + trace.n[0]);                   \
+#define REFUSED(number, place)                            \
+    lend_findings(&findings, held.findings + trace.n[0]); \
     CHECK(assessed_by(number, place) && recorded_by(number, place) && all_kept())
 
 static void sizes(void) {

@@ -29,7 +29,7 @@ size_t need(const Scene *scene, size_t k) {
 }
 
 void lend_lists(SizhbantoSceneLists *lists, const Scene *scene, size_t more) {
-#define LEND(list, name)                              \
+#define LEND(list, name)                             \
     lists->name##_length = need(scene, list) + more; \
     lists->name = lend(lists->name##_length, sizeof *lists->name);
     DESCRIPTION_LISTS(LEND)

@@ -1,5 +1,5 @@
-// A scene in its ten lists, the lists that the scene calls write, and the calls; each must leave the structs of lists as
-// they were.
+// A scene in its ten lists, the lists that the scene calls write, and the calls; each must leave the structs of lists
+// as they were.
 #ifndef SCENE_H
 #define SCENE_H
 
