@@ -199,8 +199,8 @@ enum SizhbantoRationale {
     SIZHBANTO_RATIONALE_PAST_TOLERANCE = 9,
 };
 
-// What is lent. Each list stands with the entries that it needs; the lists of components are as long as one another, and
-// so are those of connections, events and contracts, else refusal 8.
+// What is lent. Each list stands with the entries that it needs; the lists of components are as long as one another,
+// and so are those of connections, events and contracts, else refusal 8.
 
 typedef struct SizhbantoComponents {
     // components: N

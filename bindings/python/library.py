@@ -6,8 +6,8 @@ import re
 import header
 
 PATH = os.path.join(os.path.dirname(os.path.abspath(__file__)), "../../target/bindings/libsizhbanto.so")
-INTEGERS = ["int32", "uint8", "uint16", "uint32", "uint64"]
-TYPES = {f"{own}_t": getattr(ctypes, f"c_{own}") for own in INTEGERS} | {"bool": ctypes.c_bool, "size_t": ctypes.c_size_t}
+TYPES = {"bool": ctypes.c_bool, "size_t": ctypes.c_size_t, "int32_t": ctypes.c_int32, "uint8_t": ctypes.c_uint8,
+         "uint16_t": ctypes.c_uint16, "uint32_t": ctypes.c_uint32, "uint64_t": ctypes.c_uint64}
 LISTS = (header.READ_LIST, header.WRITTEN_LIST)
 
 
