@@ -1,9 +1,6 @@
 -- What the passes need of an accepted scene, whose edges are given over its positions. Assumes nothing: these are definitions.
 use Rattle.std.specs.Prelude.{true, List, [], ◌∷◌, map, ◌≡◌, ℕ, ◌*◌, ◌≤◌, length}
-use Rattle.rules.specs.Assess.{AssessLists, assess_lists}
-use Rattle.rules.specs.declared.lent.LabelLists.{LabelLists}
-use Rattle.rules.specs.declared.lent.ProjectionLists.{ProjectionLists}
-use Rattle.rules.specs.declared.lent.ReasonLists.{ReasonLists}
+use Rattle.rules.specs.Assess.{AssessLists}
 use Rattle.rules.specs.Positions.{id_at}
 use Rattle.rules.specs.Refusals.{scene_limits, shortest}
 use Rattle.rules.specs.Scene.{ComponentLists}
@@ -44,8 +41,3 @@ pub record ProjectionReady (l : ComponentLists) (sources sinks order marks : Lis
   pub path_starts_room : length sources ≤ length c.starts
   pub path_lengths_room : length sources ≤ length c.lengths
   pub paths_room : 2 * length sources ≤ length c.ids
-
--- the lists of the call, one after another
-abbrev pub grouped : ReasonLists → (feedback_ids marks : List ℕ) → ProjectionLists → LabelLists → AssessLists
-grouped r feedback_ids marks p l =
-    assess_lists r.kinds.now r.components.now r.blocks.now r.minimums.now r.maximums.now feedback_ids marks p.sources.now p.sinks.now p.inverted.now p.minimums.now p.maximums.now p.starts.now p.lengths.now p.path_ids.now l.settled.now l.lows.now l.highs.now

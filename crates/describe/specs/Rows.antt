@@ -13,7 +13,6 @@ use Rattle.rules.specs.declared.lent.Scene.{Scene}
 use Rattle.rules.specs.declared.lent.TimedEdgeLists.{TimedEdgeLists}
 use Rattle.rules.specs.declared.lent.DeviceLists.{DeviceLists}
 use Rattle.rules.specs.declared.lent.EvidenceLists.{EvidenceLists}
-use Rattle.rules.specs.declared.lent.DescriptionLists.{DescriptionLists}
 use Rattle.graph.specs.Adjacency.{Below}
 use Rattle.graph.specs.declared.edges.Edges.{Edges}
 use Rattle.describe.specs.declared.evidence.EvidenceKind.{EvidenceKind}
@@ -137,7 +136,3 @@ description_room o =
     ∷ shortest (length o.device_components ∷ length o.device_xs ∷ length o.device_ys ∷ length o.device_zs ∷ length o.device_semantics ∷ length o.device_delays ∷ [])
     ∷ shortest (length o.evidence_kinds ∷ length o.evidence_sources ∷ length o.evidence_sinks ∷ length o.evidence_components ∷ length o.evidence_blocks ∷ [])
     ∷ []
-
--- the lists of the call in one struct
-abbrev pub grouped : TimedEdgeLists → DeviceLists → EvidenceLists → DescriptionLists
-grouped e d v = record { edges = e; devices = d; evidence = v }

@@ -8,14 +8,14 @@ use native.Mathlib.Nat.{le_refl, lt-suc_self}
 use native.Mathlib.Omega.{arith}
 use borrow.Author.Tests.{ltb-true, lt-ltb, le-ltb, eq-eqb, ne_eqb}
 use lib.Dec.{eqb, ltb}
-use lib.ListN.{length, get_or, set, replicate, length-set, get_or-replicate}
+use lib.ListN.{length, get_or, set, replicate, length-set, length-append, length-map, get_or-replicate}
 use lib.Seq.{get_or-set_other, get_or-set_same}
 use Rattle.std.specs.Prelude.{Some, None}
 use Rattle.rules.specs.Lists.{keep, from, indices}
 use Rattle.rules.proofs.Indices.{from_next, from_end}
 use Rattle.graph.specs.declared.chain.Chain.{Chain}
 use Rattle.graph.specs.Chained.{chain_steps}
-use Rattle.graph.specs.Adjacency.{follow, chain, leaving, Rises, ends, Indexed}
+use Rattle.graph.specs.Adjacency.{follow, chain, edges_left, leaving, Rises, ends, Indexed}
 
 -- from lo on each link leads to a later edge
 abbrev RisesFrom : ℕ → List ℕ → Type 0
@@ -73,6 +73,19 @@ ends-end : (next sinks : List ℕ) (e : ℕ) → length next ≤ e → ends next
 unfolding ends
 ends-end next sinks e h = ap (map (λ k. get_or sinks k 0)) (chain-end next e h)
 
+follow-most : (f : ℕ) (next : List ℕ) (e : ℕ) → length (follow f next e) ≤ f
+unfolding follow
+follow-most zero next e = omega arith
+follow-most (suc f) next e = go (ltb e (length next)) (follow-most f next (get_or next e 0))
+  where
+    go : (b : Bool) → length (follow f next (get_or next e 0)) ≤ f → length (cond b (e ∷ follow f next (get_or next e 0)) []) ≤ suc f
+    go true h = omega (arith, h)
+    go false h = omega arith
+
+pub edges_left-most : (next : List ℕ) (e : ℕ) → edges_left next e ≤ length next
+unfolding edges_left chain
+edges_left-most next e = omega (arith, follow-most (length next - e) next e)
+
 -- on the way along the chain from f on, which is now at e, the ends us were met
 abbrev pub Passed : (next sinks us : List ℕ) (f e : ℕ) → Type 0
 Passed next sinks us f e = us ++ ends next sinks e ≡ ends next sinks f
@@ -80,6 +93,11 @@ Passed next sinks us f e = us ++ ends next sinks e ≡ ends next sinks f
 module _ (next sinks us : List ℕ) (f e : ℕ) (p : Passed next sinks us f e) where
   pub passed-more : Rises next → e < length next → Passed next sinks (us ++ (get_or sinks e 0 ∷ [])) f (get_or next e 0)
   passed-more up lt = append_assoc us (get_or sinks e 0 ∷ []) (ends next sinks (get_or next e 0)) ∙ ap (λ l. us ++ l) (sym (ends-step next sinks e up lt)) ∙ p
+
+  -- where it is at an edge, the chain has one
+  pub passed-some : Rises next → e < length next → 0 < edges_left next f
+  unfolding ends edges_left
+  passed-some up lt = omega (arith, ap length p, length-append us (ends next sinks e), ap length (ends-step next sinks e up lt), length-map (chain next f) (λ k. get_or sinks k 0))
 
   pub passed-all : length next ≤ e → us ≡ ends next sinks f
   passed-all over = sym (append-nil us) ∙ ap (λ l. us ++ l) (sym (ends-end next sinks e over)) ∙ p

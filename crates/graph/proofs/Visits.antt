@@ -3,15 +3,16 @@ use mathlib.Core.Bool.{Bool, true, false, cond}
 use mathlib.Core.List.Memᴰ
 use mathlib.Core.List.{List, [], ◌∷◌, ◌++◌, append_assoc, Memᴰ}
 use mathlib.Core.Logic.{⊎_elim}
-use mathlib.Core.Path.{◌≡◌, refl, ap, ◌∙◌}
+use mathlib.Core.Path.{◌≡◌, refl, sym, ap, ◌∙◌}
 use Prim.Native.Nat.{ℕ, zero, suc, ◌+◌, ◌<◌, ◌≤◌}
+use native.Mathlib.Nat.{suc-mul, mul-le-mul_right}
 use native.Mathlib.Omega.{arith}
 use borrow.Author.Tests.{eq-eqb}
 use lib.Dec.{eqb}
 use lib.ListN.{length, get_or, set, length-set, length-append}
 use Rattle.rules.specs.Lists.{count}
 use Rattle.rules.proofs.Counts.{count_under, count-every}
-use Rattle.graph.specs.Visits.{unseen, Dfs, done, skip, enter}
+use Rattle.graph.specs.Visits.{unseen, visits_left, Dfs, done, skip, enter}
 
 -- a node that is marked is one unseen node less
 pub unseen-mark : (s : List ℕ) (v : ℕ) → v < length s → get_or s v 0 ≡ 0 → suc (unseen (set s v 1)) ≡ unseen s
@@ -53,6 +54,16 @@ module _ {next : ℕ → List ℕ} where
       (λ b. omega (arith, out_below d₁ v b, length-set s v₀ 1))
       (λ r. ⊎_elim (λ e. rw e l) (λ o. omega (arith, out_below d₂ v o, dfs-length d₁, length-set s v₀ 1)) (Memᴰ.cases_cons r))
       (Memᴰ.append_cases below m)
+
+-- a visit leaves one node fewer unseen, and goes along a chain
+pub fewer-nodes : {a b e left : ℕ} → suc a ≡ b → left ≤ e → visits_left a e left < visits_left b e 0
+unfolding visits_left
+fewer-nodes {a} {e} h l = rw (sym h, suc-mul a (suc e)) (omega (arith, l))
+
+-- a walk visits only where an edge is left of its chain
+pub fewer-edges : {a b left : ℕ} (e : ℕ) → a ≤ b → 0 < left → visits_left a e 0 < visits_left b e left
+unfolding visits_left
+fewer-edges e h l = omega (arith, mul-le-mul_right (suc e) h, l)
 
 -- a call's measure is below t, which is the caller's
 pub below-t : {a b t : ℕ} → b ≡ t → a < b → a < t

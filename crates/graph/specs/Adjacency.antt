@@ -15,6 +15,10 @@ follow (suc f) next e = let rest = follow f next (get_or next e 0) in cond (ltb 
 unfoldable pub chain : List ℕ → ℕ → List ℕ
 chain next e = follow (length next - e) next e
 
+-- how many edges are left of the chain from e on
+unfoldable pub edges_left : List ℕ → ℕ → ℕ
+edges_left next e = length (chain next e)
+
 -- each link leads to a later edge
 abbrev pub Rises : List ℕ → Type 0
 Rises next = (e : ℕ) → e < length next → e < get_or next e 0

@@ -1,5 +1,5 @@
 -- Depth-first visits of marked nodes. Assumes nothing: these are definitions.
-use Rattle.std.specs.Prelude.{List, [], ◌∷◌, ◌++◌, ◌≡◌, ℕ, ◌+◌, ◌<◌, ◌≤◌, eqb, length, get_or, set}
+use Rattle.std.specs.Prelude.{List, [], ◌∷◌, ◌++◌, ◌≡◌, ℕ, suc, ◌+◌, ◌*◌, ◌<◌, ◌≤◌, eqb, length, get_or, set}
 use Rattle.rules.specs.Lists.{count, written_from}
 use Rattle.graph.specs.Adjacency.{Below, Rises, neighbours}
 use Rattle.graph.specs.declared.edges.Links.{Links}
@@ -7,6 +7,11 @@ use Rattle.graph.specs.declared.edges.Links.{Links}
 -- how many nodes have no mark
 unfoldable pub unseen : List ℕ → ℕ
 unseen marks = count (λ x. eqb x 0) marks
+
+-- The measure of a visit and of a walk, which call each other: so many nodes are unseen, and so many edges left of the walk's chain,
+-- none of a visit. There are `edges` in all.
+unfoldable pub visits_left : (nodes edges left : ℕ) → ℕ
+visits_left nodes edges left = nodes * suc edges + left
 
 -- The nodes us are visited in turn: the marks s become s', and out lists the nodes newly marked, each after all that its visit met. next says where a node's edges lead.
 pub data Dfs (next : ℕ → List ℕ) : List ℕ → List ℕ → List ℕ → List ℕ → Type 0 where

@@ -35,7 +35,8 @@ fn visit(links: &Links<'_>, marks: &mut [u8], order: &mut [usize], count: usize,
     done + 1
 }
 
-// Visits the ends of the edges on the chain from first on. A loop, so that the depth of the calls is that of the visits.
+// Visits the ends of the edges on the chain from first on. A loop, so that the depth of the calls is that of the visits. They end:
+// a visit leaves one node fewer unseen, and a walk visits only where an edge is left of its chain (`visits_left`).
 #[cycle(visit_walk)]
 fn walk(
     links: &Links<'_>,

@@ -13,6 +13,8 @@ use Rattle.rules.specs.Paths.{total}
 use Rattle.rules.specs.Reasons.{Reason, unequal_reconvergent_delay, feedback_loop, reason_kind, reason_component, reason_minimum, reason_maximum, reasons, UnequalDelay}
 use Rattle.rules.specs.Refusals.{accepted, SceneLimits, scene_limits}
 use Rattle.rules.specs.Assess.{AssessLists, assessment, check_assess, assess_checked, AssessedBy, AssessCall}
+use Rattle.rules.specs.Analyze.{AnalyzeLists, AnalyzeCall}
+use Rattle.rules.specs.declared.answers.Analysis.{Analysis}
 use Rattle.rules.specs.declared.answers.Assessment.{Assessment}
 use Rattle.rules.proofs.Indices.{at_mem, mem-at}
 use Rattle.rules.proofs.Written.{written-length}
@@ -20,6 +22,7 @@ use Rattle.laws.proofs.UnequalReasons.{unequal-reason→, →unequal-reason}
 use Rattle.laws.proofs.StoredEdges.{field_back}
 use Rattle.laws.proofs.CallRefusals.{assess-accepted}
 use Rattle.laws.proofs.CallEntries.{assessed-same}
+use Rattle.laws.proofs.CallsTogether.{analyze-parts}
 
 -- the list has an entry of this index, and it is x
 abbrev pub EntryIs : List ℕ → ℕ → ℕ → Type 0
@@ -108,3 +111,15 @@ module _ (l : ComponentLists) (m : ConnectionLists) (old new : AssessLists) (a :
 
   pub base-unequal→shown : Unequal l m v low high → ShowsUnequal a.reasons new v low high
   base-unequal→shown = unequal→shown scene_limits (omega arith) l m old new a call v low high
+
+-- The same of the call that writes lists 0 to 8
+module _ (l : ComponentLists) (m : ConnectionLists) (old new : AnalyzeLists) (a : Analysis)
+    (call : AnalyzeCall scene_limits l m old new (Ok a)) (v low high : ℕ) where
+  assessed : AssessCall scene_limits l m old.assessment new.assessment (Ok a.assessment)
+  assessed = (analyze-parts scene_limits l m old new a call).1
+
+  pub analyzed-shown→unequal : ShowsUnequal a.assessment.reasons new.assessment v low high → Unequal l m v low high
+  analyzed-shown→unequal = base-shown→unequal l m old.assessment new.assessment a.assessment assessed v low high
+
+  pub analyzed-unequal→shown : Unequal l m v low high → ShowsUnequal a.assessment.reasons new.assessment v low high
+  analyzed-unequal→shown = base-unequal→shown l m old.assessment new.assessment a.assessment assessed v low high

@@ -1,9 +1,9 @@
 -- A call that is accepted has room for every entry that it is to write. Assumes nothing.
-use mathlib.Core.List.{List, Memᴰ}
+use mathlib.Core.List.{List, [], Memᴰ}
 use mathlib.Core.Path.{◌≡◌, refl}
 use Prim.Native.Nat.{ℕ, ◌≤◌}
 use native.Mathlib.Omega.{arith}
-use lib.ListN.{length}
+use lib.ListN.{length, get_or}
 use Rattle.rules.specs.Scene.{Component, Connection, ComponentLists, ConnectionLists, components_of, connections_of, edges_of}
 use Rattle.rules.specs.Graph.{Edge}
 use Rattle.rules.specs.Labels.{labels}
@@ -12,8 +12,10 @@ use Rattle.rules.specs.Projection.{marks, projected, path_ids}
 use Rattle.rules.specs.Refusals.{accepted, SceneLimits}
 use Rattle.rules.specs.Describe.{timed_edges, devices, evidence, describe_outputs, check_describe}
 use Rattle.rules.specs.Assess.{assess_outputs, check_assess}
+use Rattle.rules.specs.Analyze.{AnalyzeLists, analysis_lengths, analysis_checked}
 use Rattle.rules.proofs.Columns.{components_length, connections-length}
 use Rattle.rules.proofs.Acceptance.{accepted→}
+use Rattle.laws.proofs.CallsTogether.{calls-accepted}
 use Rattle.laws.proofs.Room.{timed-edges-fit, devices-fit, evidence-fit, reasons-fit, feedback-fit, marks-fit, labels-fit, accepted-projected, accepted-path-ids}
 
 -- every field's list is as long as the entries in use
@@ -70,3 +72,10 @@ module _ (limits : SceneLimits) (l : ComponentLists) (m : ConnectionLists) where
         paths_room = λ n k. omega (arith, accepted-path-ids limits l m outputs e, long _ (Memᴰ.tail (Memᴰ.tail (Memᴰ.tail (Memᴰ.tail (Memᴰ.head refl))))) n k);
         labels_room = λ n k. omega (arith, labels-fit cs es, long _ (Memᴰ.tail (Memᴰ.tail (Memᴰ.tail (Memᴰ.tail (Memᴰ.tail (Memᴰ.head refl)))))) n k);
       }
+
+  -- of the call that writes lists 0 to 8: the row of lengths at each list's number
+  pub analyze-room : (o : AnalyzeLists) → analysis_checked limits l m o ≡ accepted
+      → (let at : ℕ → List ℕ = λ k. get_or (analysis_lengths o) k [] in DescribeRoom cs ns (at 0) (at 1) (at 2) × AssessRoom cs es (at 3) (at 4) (at 5) (at 6) (at 7) (at 8))
+  analyze-room o e =
+      let parts = calls-accepted limits l m _ _ _ _ _ _ _ _ _ e in
+      (describe-room _ _ _ parts.0, assess-room _ _ _ _ _ _ parts.1)

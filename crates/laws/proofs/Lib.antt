@@ -6,6 +6,7 @@ pub mod CallRefusals
 -- that a refusal has one of the fifteen numbers
 pub mod RefusalNumbers
 pub mod DescribeReordering
+pub mod AnalyzeReordering
 -- what the trace call and recording promise
 pub mod TraceCalls
 -- that the two calls on one scene part only by the room of their lists

@@ -13,13 +13,14 @@ use Rattle.rules.specs.Refusals.{Checked, accepted, Test, first_refusal, SceneLi
 use Rattle.rules.specs.Verdicts.{FindingLists, finding_lengths}
 use Rattle.rules.specs.Describe.{DescribeLists, check_describe, DescribeCall}
 use Rattle.rules.specs.Assess.{AssessLists, check_assess, AssessCall}
+use Rattle.rules.specs.Analyze.{AnalyzeLists, AnalyzeCall}
 use Rattle.rules.specs.Traces.{TraceLimits, TraceLists, contract_tests, trace_tests, check_trace, TraceCall}
 use Rattle.rules.specs.Recording.{TransientRecord, record_tests, check_recording, RecordedBy, RecordCall}
 use Rattle.rules.specs.declared.answers.Refusal.{Refusal}
 use Rattle.rules.specs.declared.answers.RefusalKind.{RefusalKind}
 use Rattle.rules.proofs.Lists.{flat_out}
 use Rattle.rules.proofs.FirstRefusal.{refused-holds}
-use Rattle.laws.proofs.CallRefusals.{assess-refused, describe-refused}
+use Rattle.laws.proofs.CallRefusals.{analyze-refused, assess-refused, describe-refused}
 use Rattle.laws.proofs.TraceCalls.{trace-refused}
 
 pub kind-number : (k : RefusalKind) → (1 ≤ refusal_code k) × (refusal_code k ≤ 15)
@@ -66,6 +67,9 @@ module _ (limits : SceneLimits) (l : ComponentLists) (m : ConnectionLists) (outp
 
 -- and so by each scene call
 module _ (limits : SceneLimits) (l : ComponentLists) (m : ConnectionLists) where
+  pub analyze-number : (old new : AnalyzeLists) (r : Refusal) → AnalyzeCall limits l m old new (Err r) → (1 ≤ refusal_code r.kind) × (refusal_code r.kind ≤ 8)
+  analyze-number old new r call = scene-refusals limits l m _ (analyze-refused limits l m old new r call).0
+
   pub assess-number : (old new : AssessLists) (r : Refusal) → AssessCall limits l m old new (Err r) → (1 ≤ refusal_code r.kind) × (refusal_code r.kind ≤ 8)
   unfolding check_assess
   assess-number old new r call = scene-refusals limits l m _ (assess-refused limits l m old new r call).0

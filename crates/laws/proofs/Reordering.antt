@@ -13,7 +13,7 @@ use Rattle.rules.specs.Scene.{Component, Connection, Scene, ComponentLists, Conn
 use Rattle.rules.specs.Graph.{Edge}
 use Rattle.rules.specs.Reasons.{feedback, reasons}
 use Rattle.rules.specs.Projection.{ProjectedEdge, marks, projected}
-use Rattle.rules.specs.Refusals.{accepted, SceneLimits, Output, check_scene}
+use Rattle.rules.specs.Refusals.{accepted, SceneLimits, Output, outputs_from, check_scene}
 use Rattle.rules.specs.Describe.{TimedEdge, timed_edge, timed_edges, device_components, devices, Evidence, evidence, connection_evidence, device_evidence, description, describe_outputs, check_describe}
 use Rattle.rules.specs.Assess.{assessment, assess_outputs, check_assess}
 use Rattle.rules.specs.Labels.{labels}
@@ -106,7 +106,11 @@ module _ (limits : SceneLimits) (l : ComponentLists) (m m' : ConnectionLists) (r
   same_length : length m.sources ≡ length m'.sources
   same_length = sym (connections-length m) ∙ perm-length (perm (scene_of l m) (scene_of l m') r) ∙ connections-length m'
 
-  -- by each of the two scene calls
+  -- by the scene call and by each of its two parts
+  pub same-analyze : (lengths : List (List ℕ)) → check_scene limits l m (outputs_from 0 (length l.ids) (length m.sources) lengths) ≡ accepted
+      → check_scene limits l m' (outputs_from 0 (length l.ids) (length m'.sources) lengths) ≡ accepted
+  same-analyze lengths e = rw (← same_length) (same-acceptance (outputs_from 0 (length l.ids) (length m.sources) lengths) e)
+
   pub same-describe : (l0 l1 l2 : List ℕ) → check_describe limits l m l0 l1 l2 ≡ accepted → check_describe limits l m' l0 l1 l2 ≡ accepted
   unfolding check_describe
   same-describe l0 l1 l2 e = rw (← same_length) (same-acceptance (describe_outputs (length l.ids) (length m.sources) l0 l1 l2) e)

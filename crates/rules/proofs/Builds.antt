@@ -240,11 +240,14 @@ rows =
     ∷ (6 ∷ 5 ∷ 16 ∷ []) ∷ (7 ∷ 13 ∷ 17 ∷ []) ∷ (8 ∷ 3 ∷ 18 ∷ []) ∷ [])
     -- for 1 component and 2 connections: just enough, then too little for lists 1, 2, 5 and 7, then for 0 and 8
     ∷ fits (2 ∷ 1 ∷ 3 ∷ 3 ∷ 1 ∷ 1 ∷ 2 ∷ 5 ∷ 1 ∷ []) (plain (1 ∷ []) (3 ∷ [])) (selves 2)
-    gives table ((0 ∷ 0 ∷ 2 ∷ 0 ∷ 2 ∷ []) ∷ assessed 0 3 0 0 1 0 2 4 ∷ [])
+    gives table ((0 ∷ 0 ∷ 2 ∷ 0 ∷ 2 ∷ []) ∷ assessed 0 3 0 0 1 0 2 4 ∷ (0 ∷ 0 ∷ 2 ∷ 0 ∷ 2 ∷ 0 ∷ 3 ∷ 100 ∷ 0 ∷ 0 ∷ 1 ∷ 0 ∷ 2 ∷ 4 ∷ []) ∷ [])
     ∷ fits (2 ∷ 0 ∷ 2 ∷ 3 ∷ 1 ∷ 0 ∷ 2 ∷ 4 ∷ 1 ∷ []) (plain (1 ∷ []) (3 ∷ [])) (selves 2)
-    gives table ((7 ∷ 1 ∷ 0 ∷ 0 ∷ 0 ∷ []) ∷ (7 ∷ 5 ∷ replicate 9 0) ∷ [])
+    gives table ((7 ∷ 1 ∷ 0 ∷ 0 ∷ 0 ∷ []) ∷ (7 ∷ 5 ∷ replicate 9 0) ∷ (7 ∷ 1 ∷ replicate 12 0) ∷ [])
     ∷ fits (1 ∷ 1 ∷ 3 ∷ 3 ∷ 1 ∷ 1 ∷ 2 ∷ 5 ∷ 0 ∷ []) (plain (1 ∷ []) (3 ∷ [])) (selves 2)
-    gives table ((7 ∷ 0 ∷ 0 ∷ 0 ∷ 0 ∷ []) ∷ (7 ∷ 8 ∷ replicate 9 0) ∷ [])
+    gives table ((7 ∷ 0 ∷ 0 ∷ 0 ∷ 0 ∷ []) ∷ (7 ∷ 8 ∷ replicate 9 0) ∷ (7 ∷ 0 ∷ replicate 12 0) ∷ [])
+    -- a torch alone, with too little for list 3: lists 0 to 2 are refused with the rest where all nine are asked for
+    ∷ fits (0 ∷ 1 ∷ 1 ∷ 2 ∷ 1 ∷ 1 ∷ 0 ∷ 1 ∷ 1 ∷ []) (plain (1 ∷ []) (9 ∷ [])) (joined [] [] [])
+    gives table ((0 ∷ 0 ∷ 0 ∷ 1 ∷ 1 ∷ []) ∷ (7 ∷ 3 ∷ replicate 9 0) ∷ (7 ∷ 3 ∷ replicate 12 0) ∷ [])
     -- components, connections, events, contracts, traces, findings for each trace
     ∷ sizes gives holds (512 ∷ 2048 ∷ 4096 ∷ 512 ∷ 64 ∷ 4096 ∷ [])
     -- off 10, on 12, off 14: High, width 2

@@ -12,9 +12,10 @@ use Rattle.rules.specs.Paths.{no_incoming, settled_sources, paths_within, paths_
 use Rattle.rules.specs.Labels.{Label, label, settled_flag, low_sum, high_sum, labels}
 use Rattle.rules.specs.Reasons.{in_feedback, feedback, Reason, reason_kind, reason_component, reason_block, reason_minimum, reason_maximum, feedback_reason, own_reason, unequal_at, unequal_reason, unequal_reasons_by, unequal_reasons, temporal_reasons, reasons, scope, pattern}
 use Rattle.rules.specs.Projection.{compressed, marks, retained, first_edges, next, chain, chain_from, before_last, last_of, flips, inverts_at, ProjectedEdge, projected_by, projected_along, projected, starts_from, path_starts, path_ids, projected_path}
-use Rattle.rules.specs.Refusals.{Checked, need_of, scene_limits, Output, output, first_refusal, after_from, after, component_lengths, connection_lengths, out_of_range, used_earlier, component_tests, end_missing, connection_tests, size_tests, scene_tests, check_scene, refusal_number, refusal_place}
+use Rattle.rules.specs.Refusals.{Checked, answer_of, outputs_from, need_of, scene_limits, Output, output, first_refusal, after_from, after, component_lengths, connection_lengths, out_of_range, used_earlier, component_tests, end_missing, connection_tests, size_tests, scene_tests, check_scene, refusal_number, refusal_place}
 use Rattle.rules.specs.Describe.{TimedEdge, timed_edge, timed_edges, TemporalDevice, temporal_device, device_components, devices, Evidence, evidence_kind, evidence_source, evidence_sink, evidence_component, evidence_block, evidence, describe_outputs, check_describe, description as description_of, description_numbers}
 use Rattle.rules.specs.Assess.{assess_outputs, check_assess, assessment, scene_answer, scene_numbers}
+use Rattle.rules.specs.Analyze.{analysis, analysis_numbers}
 use Rattle.rules.specs.Report.{component_fields, connection_fields}
 use Rattle.rules.specs.Pulses.{EventLists, event_lists as events, event_at, events_of, is_pulse, pulse_of, pulses_in, event_components, pulses}
 use Rattle.rules.specs.Verdicts.{ContractLists, contract_lists as contracts, contract_at, contracts_of, intent_of, design_intent, classify, Finding, finding_of, findings, finding_component, finding_polarity, finding_unit, finding_start_tick, finding_end_tick, finding_width, finding_steady, finding_baseline, finding_start, finding_end, finding_verdict, finding_rationale, tally, tallies}
@@ -52,7 +53,7 @@ pub data Question : Type 0 where
   ranged : (low high : ℕ) → List Component → List Connection → Question
   -- with limits of 3 components and 2 connections, and list 8 alone, the last of whose fields has so many entries
   checks : (room : ℕ) → ComponentLists → ConnectionLists → Question
-  -- both scene calls' numbers, where lists 0 to 8 have these lengths
+  -- the numbers of the scene call's two parts, then its own, where lists 0 to 8 have these lengths
   fits : (rooms : List ℕ) → ComponentLists → ConnectionLists → Question
   -- lists 0 to 8 for so many components and connections: number, need, and the length it was given, 10 to 18
   needs : (n m : ℕ) → Question
@@ -153,7 +154,9 @@ answer (fits rooms l m) =
     let of : ℕ → List ℕ = λ k. get_or rooms k 0 ∷ [] in
     let d = check_describe scene_limits l m (of 0) (of 1) (of 2) in
     let a = check_assess scene_limits l m (of 3) (of 4) (of 5) (of 6) (of 7) (of 8) in
-    table (description_numbers (description_of d (scene_of l m)) ∷ scene_numbers (scene_answer a (scene_of l m)) ∷ [])
+    let c = check_scene scene_limits l m (outputs_from 0 (length l.ids) (length m.sources) (map of (indices 9))) in
+    let s = scene_of l m in
+    table (description_numbers (description_of d s) ∷ scene_numbers (scene_answer a s) ∷ analysis_numbers (answer_of c (analysis s)) ∷ [])
 answer (needs n m) =
     table (map output_row (describe_outputs n m (10 ∷ []) (11 ∷ []) (12 ∷ []) ++ assess_outputs n m (13 ∷ []) (14 ∷ []) (15 ∷ []) (16 ∷ []) (17 ∷ []) (18 ∷ [])))
 answer sizes =

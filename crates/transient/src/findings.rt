@@ -39,13 +39,14 @@ fn write_judgement(verdict: u8, rationale: u8, at: usize, findings: &mut Finding
     findings.rationales[at] = rationale;
 }
 
-// One more finding of the verdict of this number.
-fn count_verdict(tallies: &mut [u64; 5], verdict: u8)
+// The tallies with one more finding of the verdict of this number.
+fn count_verdict(mut tallies: [u64; 5], verdict: u8) -> [u64; 5]
     requires number { verdict < 5 }
-    requires few { slice_index tallies.old verdict + 1 < 2 ^ 64 }
-    ensures { tallies.new ≡ slice_set tallies.old verdict (slice_index tallies.old verdict + 1) }
+    requires few { slice_index tallies verdict + 1 < 2 ^ 64 }
+    ensures { result ≡ slice_set tallies verdict (slice_index tallies verdict + 1) }
 {
     tallies[usize::from(verdict)] += 1;
+    tallies
 }
 
 impl EventRow<'_> {
@@ -86,7 +87,8 @@ impl EventRow<'_> {
                 findings.widths[at],
             );
             write_judgement(verdict, rationale, at, findings);
-            count_verdict(&mut tallies, verdict);
+            let counted = count_verdict(tallies, verdict);
+            tallies = counted;
         }
         tallies
     }

@@ -1,8 +1,8 @@
--- `visit` and `walk` visit nodes depth-first. The measure is twice the number of nodes not seen, and one more for a walk. Assumes nothing.
+-- `visit` and `walk` visit nodes depth-first. The measure is of the unseen nodes and of the edges left of a walk's chain. Assumes nothing.
 use mathlib.Core.Path.{◌≡◌, refl}
 use native.Mathlib.Omega.{arith}
-use Rattle.graph.proofs.Chains.{step-on, step-end}
-use Rattle.graph.proofs.Visits.{below-t}
+use Rattle.graph.proofs.Chains.{step-on, step-end, edges_left-most, passed-some}
+use Rattle.graph.proofs.Visits.{below-t, fewer-nodes, fewer-edges}
 use Rattle.graph.proofs.OrderSteps.{visit-old, fewer, marked, place, visit-new, no_more, walking-none, walking-ready, walking-more, walked}
 use Rattle.graph.proofs.visit_order.+visit_walk.Goals as goal
 
@@ -10,7 +10,7 @@ pub visit-walk-done-requires : goal.visit-walk-done-requires
 visit-walk-done-requires t c =
     let a = c.args in
     let p = c.requires in
-    (below-t c.decreases (omega (arith, fewer p.0 a.u p.1 c.if-marks-u-ne0.false)), marked p.0 a.u p.1 c.if-marks-u-ne0.false)
+    (below-t c.decreases (fewer-nodes (fewer p.0 a.u p.1 c.if-marks-u-ne0.false) (edges_left-most _ _)), marked p.0 a.u p.1 c.if-marks-u-ne0.false)
 
 pub visit-offset_bounds-order-done : goal.visit-offset_bounds-order-done
 visit-offset_bounds-order-done t c =
@@ -52,7 +52,7 @@ walk-visit-done-requires t c =
     let p = c.requires in
     let l = c.loop-e in
     let s = step-on c.args.links.now.next.now l.e-iterator l.invariant.0 c.in-Some.e c.next.new.self c.in-Some.ensures.steps in (
-      below-t c.decreases (omega (arith, no_more p l.invariant.1.visited l.invariant.1.size)),
+      below-t c.decreases (fewer-edges _ (no_more p l.invariant.1.visited l.invariant.1.size) (passed-some _ _ _ _ _ (rw s.1 at l.invariant.1.passed) p.linked.rises s.0)),
       (walking-ready p c.args.first _ l.invariant.1, p.linked.inside c.in-Some.e (omega (arith, s.0, p.linked.pairs))),
     )
 

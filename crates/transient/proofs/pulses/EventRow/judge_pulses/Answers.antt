@@ -17,13 +17,13 @@ loop-j-init c = record {
 pub write_judgement-requires : goal.write_judgement-requires
 write_judgement-requires c = room-here c.args.self c.loop-j.j (omega (arith, c.requires.counted)) c.loop-j.invariant.listed c.requires.room c.requires.counted
 
-pub count_verdict-requires-clause-number : goal.count_verdict-requires-clause-number
-count_verdict-requires-clause-number c =
+pub count_verdict-counted-requires-clause-number : goal.count_verdict-counted-requires-clause-number
+count_verdict-counted-requires-clause-number c =
     verdict-number (finding_at c.args.self c.loop-j.j)
     (verdict-here c.args.self c.loop-j.j (omega (arith, c.requires.counted)) c.loop-j.invariant.listed c.requires.held c.loop-j.invariant.trace c.judge-verdict.ensures.judged)
 
-pub count_verdict-requires-clause-few : goal.count_verdict-requires-clause-few
-count_verdict-requires-clause-few c =
+pub count_verdict-counted-requires-clause-few : goal.count_verdict-counted-requires-clause-few
+count_verdict-counted-requires-clause-few c =
     let v = verdict-here c.args.self c.loop-j.j (omega (arith, c.requires.counted)) c.loop-j.invariant.listed c.requires.held c.loop-j.invariant.trace c.judge-verdict.ensures.judged in
     omega (arith, verdict-few c.args.self c.loop-j.j (omega (arith, c.requires.counted)) c.loop-j.invariant.tallied v)
 
@@ -36,5 +36,5 @@ loop-j-preserved c =
       trace = c.judge-verdict.ensures.trace ∙ c.loop-j.invariant.trace;
       listed =
           listed-more c.args.self c.loop-j.j (omega (arith, c.requires.counted)) c.loop-j.invariant.listed c.requires.room c.requires.counted v w c.write_judgement.ensures.written;
-      tallied = tallied-more c.args.self c.loop-j.j (omega (arith, c.requires.counted)) c.loop-j.invariant.tallied v c.count_verdict.ensures;
+      tallied = tallied-more c.args.self c.loop-j.j (omega (arith, c.requires.counted)) c.loop-j.invariant.tallied v c.count_verdict-counted.ensures;
     }
