@@ -1,25 +1,35 @@
-// The calls of the redstone timing overlay for C99 and C++.
+// The calls of the redstone timing overlay for C99 and C++11.
 //
-// A list is a pointer and the number of its entries. Presumed of a caller is that the pointer leads to so many
-// entries and that no list that is written overlaps another list of the call. Nothing is kept after a call. Refused
+// A list is a pointer and the number of its entries. The scene calls and the trace calls are lent structs of lists:
+// what is read by a pointer to const, what is written by another. Presumed of a caller is that
+//   the pointer of a list leads to so many entries; where there are none it may be NULL
+//   the pointer to a struct leads to one, so it is never NULL
+//   no list that is written overlaps another list of the call, or one of its structs
+// A call writes entries alone and leaves every pointer and length of a struct as it was; it keeps nothing. Refused
 // calls answer a number and a place and leave every list as it was. Codes may have any value: those out of range are
 // refused. docs/PERFORMANCE.md says how much stack a call takes.
 //
-// N is how many components there are, M connections, E events, C contracts, H findings held by a record. A list of
-// several fields is one number list for each field, each at least as long as is said, else refusal 7 with the list's
-// number. Entries past those used keep their values.
+// N is how many components there are, M connections, E events, C contracts, H findings held by a record, 0 in a call
+// without one. A list of several fields is one number list for each field, each at least as long as is said, else
+// refusal 7 with the list's number. Entries past those used keep their values.
 //
 // This file is the one place for widths and for the order of lists. bindings/rust and bindings/python read it, and
 // bindings/check_header holds it against the exports. So its lines have fixed forms:
 //   comments: whole lines, from `//` on; those right before an item are about it
 //   #define SIZHBANTO_NAME number
 //   enum SizhbantoName {            then a line each, `SIZHBANTO_NAME_VALUE = number,`      then `};`
-//   typedef struct SizhbantoName {  then a line each, `type name;` or `type name[count];`   then `} SizhbantoName;`
-//   Result sizhbanto_name(          then a line each, `type name` or a list, and commas     then `);`
-//   a list that is read:     const type *name, size_t name_length
-//   a list that is written:  type *name, size_t name_length
-//   `// name: entries` or `// list number, name: entries` among parameters: what the lists are that follow, up to the
-//   next such line or number
+//   typedef struct SizhbantoName {  then a line for each field                              then `} SizhbantoName;`
+//   Result sizhbanto_name(          then a line for each parameter, and commas              then `);`
+//   a field:                        `type name;` or `type name[count];` or a list
+//   a list that is read:            `const type *name; size_t name_length;`
+//   a list that is written:         `type *name; size_t name_length;`
+//   a parameter:                    `type name`, or a list with `, ` in place of `; ` and nothing after it, or a struct
+//   a struct whose lists are read:  `const SizhbantoName *name`
+//   a struct with lists to write:   `SizhbantoName *name`
+//   `// name: entries` or `// list number, name: entries` among fields or parameters: what the lists are that follow,
+//   and how many entries each needs, up to the next such line or what is no list
+//   SIZHBANTO_SIZE(SizhbantoName, bytes) and SIZHBANTO_OFFSET(SizhbantoName, field, bytes): the layout; other lines
+//   that begin with # are for the compiler alone
 #ifndef SIZHBANTO_H
 #define SIZHBANTO_H
 
@@ -62,7 +72,7 @@ enum SizhbantoRefusalNumber {
     SIZHBANTO_REFUSAL_NUMBER_RECORD_FALSE = 15,
 };
 
-// kinds, reason_blocks, evidence_blocks
+// kinds of components; blocks of evidence and reasons
 enum SizhbantoBlockKind {
     SIZHBANTO_BLOCK_KIND_AIR = 0,
     SIZHBANTO_BLOCK_KIND_SOLID = 1,
@@ -79,7 +89,7 @@ enum SizhbantoBlockKind {
     SIZHBANTO_BLOCK_KIND_PISTON = 12,
 };
 
-// transfers; a structural support is no edge, yields evidence only and may name absent ids
+// transfers of connections; a structural support is no edge, yields evidence only and may name absent ids
 enum SizhbantoTransferKind {
     SIZHBANTO_TRANSFER_KIND_DUST_PROPAGATION = 0,
     SIZHBANTO_TRANSFER_KIND_DIRECT_SIGNAL = 1,
@@ -90,7 +100,7 @@ enum SizhbantoTransferKind {
     SIZHBANTO_TRANSFER_KIND_STRUCTURAL_SUPPORT = 6,
 };
 
-// edge_behaviors
+// behaviors of timed edges
 enum SizhbantoEdgeBehavior {
     SIZHBANTO_EDGE_BEHAVIOR_IMMEDIATE = 0,
     SIZHBANTO_EDGE_BEHAVIOR_DELAYED_FORWARD = 1,
@@ -100,7 +110,7 @@ enum SizhbantoEdgeBehavior {
     SIZHBANTO_EDGE_BEHAVIOR_ORDER_SENSITIVE = 5,
 };
 
-// device_semantics
+// semantics of devices
 enum SizhbantoTemporalSemantics {
     SIZHBANTO_TEMPORAL_SEMANTICS_DELAYED_FORWARD = 0,
     SIZHBANTO_TEMPORAL_SEMANTICS_DELAYED_INVERT = 1,
@@ -108,14 +118,14 @@ enum SizhbantoTemporalSemantics {
     SIZHBANTO_TEMPORAL_SEMANTICS_MECHANICAL_ACTUATION = 3,
 };
 
-// evidence_kinds: the first has source and sink, the second component and block; the other fields are 0
+// kinds of evidence: the first has source and sink, the second component and block; the other fields are 0
 enum SizhbantoTemporalEvidence {
     SIZHBANTO_TEMPORAL_EVIDENCE_VERIFIED_PHYSICAL_CONNECTION = 0,
     SIZHBANTO_TEMPORAL_EVIDENCE_DEVICE_SEMANTICS = 1,
 };
 
-// reason_kinds: the first has component, minimum and maximum; Feedback has none, its components are list 4; the third
-// has component and block; the last has component; the other fields are 0
+// kinds of reasons: the first has component, minimum and maximum; Feedback has none, its components are list 4; the
+// third has component and block; the last has component; the other fields are 0
 enum SizhbantoTimingReason {
     SIZHBANTO_TIMING_REASON_UNEQUAL_RECONVERGENT_DELAY = 0,
     SIZHBANTO_TIMING_REASON_FEEDBACK = 1,
@@ -144,20 +154,20 @@ enum SizhbantoBehaviorPattern {
     SIZHBANTO_BEHAVIOR_PATTERN_NOTHING = 3,
 };
 
-// unit, contract_units, finding_units
+// the unit of a trace; units of contracts and findings
 enum SizhbantoTraceTimeUnit {
     SIZHBANTO_TRACE_TIME_UNIT_REDSTONE_TICK = 0,
     SIZHBANTO_TRACE_TIME_UNIT_GAME_TICK = 1,
 };
 
-// contract_polarities, finding_polarities
+// polarities of contracts and findings
 enum SizhbantoPulsePolarity {
     SIZHBANTO_PULSE_POLARITY_HIGH = 0,
     SIZHBANTO_PULSE_POLARITY_LOW = 1,
 };
 
-// contract_intents: the first uses no other field; Stable uses powered; IntentionalPulse polarity, unit, smallest and
-// largest; MaximumPulseWidth polarity, unit and largest; fields that are not used are not read
+// intents of contracts: the first uses no other field; Stable uses powered; IntentionalPulse polarity, unit, smallest
+// and largest; MaximumPulseWidth polarity, unit and largest; fields that are not used are not read
 enum SizhbantoSignalIntent {
     SIZHBANTO_SIGNAL_INTENT_STEADY_STATE_ONLY = 0,
     SIZHBANTO_SIGNAL_INTENT_STABLE = 1,
@@ -165,7 +175,7 @@ enum SizhbantoSignalIntent {
     SIZHBANTO_SIGNAL_INTENT_MAXIMUM_PULSE_WIDTH = 3,
 };
 
-// finding_verdicts, and the places of tallies
+// verdicts of findings, and the places of tallies
 enum SizhbantoTransientVerdict {
     SIZHBANTO_TRANSIENT_VERDICT_PULSE_OBSERVED = 0,
     SIZHBANTO_TRANSIENT_VERDICT_TRANSIENT_DEVIATION = 1,
@@ -174,7 +184,7 @@ enum SizhbantoTransientVerdict {
     SIZHBANTO_TRANSIENT_VERDICT_INTENTIONAL_PULSE = 4,
 };
 
-// finding_rationales: no contract; settled behaviour only; for Stable the wanted level, then the pulse's polarity;
+// rationales of findings: no contract; settled behaviour only; for Stable the wanted level, then the pulse's polarity;
 // the pulse fits the intent or does not; it is within the tolerance or is not
 enum SizhbantoRationale {
     SIZHBANTO_RATIONALE_NO_INTENT = 0,
@@ -188,6 +198,162 @@ enum SizhbantoRationale {
     SIZHBANTO_RATIONALE_WITHIN_TOLERANCE = 8,
     SIZHBANTO_RATIONALE_PAST_TOLERANCE = 9,
 };
+
+// What is lent. Each list stands with the entries that it needs; the lists of components are as long as one another,
+// and so are those of connections, events and contracts, else refusal 8.
+
+typedef struct SizhbantoComponents {
+    // components: N
+    const uint64_t *ids; size_t ids_length;
+    const uint8_t *kinds; size_t kinds_length;
+    const uint16_t *delays; size_t delays_length;
+    const uint8_t *locked; size_t locked_length;
+    const int32_t *xs; size_t xs_length;
+    const int32_t *ys; size_t ys_length;
+    const int32_t *zs; size_t zs_length;
+} SizhbantoComponents;
+
+typedef struct SizhbantoConnections {
+    // connections: M
+    const uint64_t *sources; size_t sources_length;
+    const uint64_t *sinks; size_t sinks_length;
+    const uint8_t *transfers; size_t transfers_length;
+} SizhbantoConnections;
+
+typedef struct SizhbantoScene {
+    SizhbantoComponents components;
+    SizhbantoConnections connections;
+} SizhbantoScene;
+
+typedef struct SizhbantoEvents {
+    // events: E
+    const uint64_t *ticks; size_t ticks_length;
+    const uint64_t *components; size_t components_length;
+    const uint8_t *powered; size_t powered_length;
+} SizhbantoEvents;
+
+// Contracts rise by component.
+typedef struct SizhbantoContracts {
+    // contracts: C
+    const uint64_t *components; size_t components_length;
+    const uint8_t *intents; size_t intents_length;
+    const uint8_t *powered; size_t powered_length;
+    const uint8_t *polarities; size_t polarities_length;
+    const uint8_t *units; size_t units_length;
+    const uint64_t *smallest; size_t smallest_length;
+    const uint64_t *largest; size_t largest_length;
+} SizhbantoContracts;
+
+typedef struct SizhbantoTrace {
+    uint8_t unit;
+    SizhbantoEvents events;
+    SizhbantoContracts contracts;
+} SizhbantoTrace;
+
+// In connection order.
+typedef struct SizhbantoTimedEdgeLists {
+    // list 0, timed edges: M
+    uint64_t *sources; size_t sources_length;
+    uint64_t *sinks; size_t sinks_length;
+    uint32_t *minimums; size_t minimums_length;
+    uint32_t *maximums; size_t maximums_length;
+    uint8_t *behaviors; size_t behaviors_length;
+} SizhbantoTimedEdgeLists;
+
+// In component order.
+typedef struct SizhbantoDeviceLists {
+    // list 1, devices: N
+    uint64_t *components; size_t components_length;
+    int32_t *xs; size_t xs_length;
+    int32_t *ys; size_t ys_length;
+    int32_t *zs; size_t zs_length;
+    uint8_t *semantics; size_t semantics_length;
+    uint32_t *delays; size_t delays_length;
+} SizhbantoDeviceLists;
+
+// That of connections in their order, then that of devices in component order.
+typedef struct SizhbantoEvidenceLists {
+    // list 2, evidence: M + N
+    uint8_t *kinds; size_t kinds_length;
+    uint64_t *sources; size_t sources_length;
+    uint64_t *sinks; size_t sinks_length;
+    uint64_t *components; size_t components_length;
+    uint8_t *blocks; size_t blocks_length;
+} SizhbantoEvidenceLists;
+
+typedef struct SizhbantoDescriptionLists {
+    SizhbantoTimedEdgeLists edges;
+    SizhbantoDeviceLists devices;
+    SizhbantoEvidenceLists evidence;
+} SizhbantoDescriptionLists;
+
+// Feedback, then stateful devices and locked repeaters in component order, then unequal delays by rising id.
+typedef struct SizhbantoReasonLists {
+    // list 3, reasons: 2N + 1
+    uint8_t *kinds; size_t kinds_length;
+    uint64_t *components; size_t components_length;
+    uint8_t *blocks; size_t blocks_length;
+    uint32_t *minimums; size_t minimums_length;
+    uint32_t *maximums; size_t maximums_length;
+} SizhbantoReasonLists;
+
+// The path of a projected edge is the part of path_ids that begins at its entry of starts and is as long as that of
+// lengths; its ends are included.
+typedef struct SizhbantoProjectionLists {
+    // list 6, projected edges: M
+    uint64_t *sources; size_t sources_length;
+    uint64_t *sinks; size_t sinks_length;
+    uint8_t *inverted; size_t inverted_length;
+    uint32_t *minimums; size_t minimums_length;
+    uint32_t *maximums; size_t maximums_length;
+    size_t *starts; size_t starts_length;
+    size_t *lengths; size_t lengths_length;
+    // list 7, paths: 2M + N
+    uint64_t *path_ids; size_t path_ids_length;
+} SizhbantoProjectionLists;
+
+// In component order; both sums are 0 where a component is not settled.
+typedef struct SizhbantoLabelLists {
+    // list 8, labels: N
+    uint8_t *settled; size_t settled_length;
+    uint32_t *lows; size_t lows_length;
+    uint32_t *highs; size_t highs_length;
+} SizhbantoLabelLists;
+
+// Marks are in component order.
+typedef struct SizhbantoAssessmentLists {
+    SizhbantoReasonLists reasons;
+    // list 4, feedback: N
+    uint64_t *feedback_ids; size_t feedback_ids_length;
+    // list 5, marks: N
+    uint8_t *marks; size_t marks_length;
+    SizhbantoProjectionLists projected;
+    SizhbantoLabelLists labels;
+} SizhbantoAssessmentLists;
+
+// Lists 0 to 8.
+typedef struct SizhbantoSceneLists {
+    SizhbantoDescriptionLists description;
+    SizhbantoAssessmentLists assessment;
+} SizhbantoSceneLists;
+
+// In pulse order: by rising component, then in the order of the events. baselines, starts and ends have the indices of
+// the events before, at the start and at the end of a pulse.
+typedef struct SizhbantoFindings {
+    // list 9, findings: H + E
+    uint64_t *components; size_t components_length;
+    uint8_t *polarities; size_t polarities_length;
+    uint8_t *units; size_t units_length;
+    uint64_t *start_ticks; size_t start_ticks_length;
+    uint64_t *end_ticks; size_t end_ticks_length;
+    uint64_t *widths; size_t widths_length;
+    uint8_t *steady; size_t steady_length;
+    size_t *baselines; size_t baselines_length;
+    size_t *starts; size_t starts_length;
+    size_t *ends; size_t ends_length;
+    uint8_t *verdicts; size_t verdicts_length;
+    uint8_t *rationales; size_t rationales_length;
+} SizhbantoFindings;
 
 // The answers. number and place are those of a refusal, 0 and 0 where there is none; the rest is 0 under a refusal.
 
@@ -228,6 +394,24 @@ typedef struct SizhbantoSceneNumbers {
     uint64_t projected;
     uint64_t path_ids;
 } SizhbantoSceneNumbers;
+
+// Those of both.
+typedef struct SizhbantoAnalysisNumbers {
+    uint32_t number;
+    uint64_t place;
+    uint64_t timed_edges;
+    uint64_t devices;
+    uint64_t evidence;
+    uint8_t scope;
+    uint8_t pattern;
+    uint8_t confidence;
+    uint64_t reasons;
+    uint64_t feedback;
+    uint64_t retained;
+    uint64_t compressed;
+    uint64_t projected;
+    uint64_t path_ids;
+} SizhbantoAnalysisNumbers;
 
 // A part of list 7.
 typedef struct SizhbantoPathPart {
@@ -273,123 +457,216 @@ typedef struct SizhbantoReconverged {
     size_t unequal;
 } SizhbantoReconverged;
 
-// The scene calls. The two that write lists 0 to 2 and 3 to 8 accept the same scenes and refuse alike, unless a list
-// of one of them is too short. Who wants all nine lists tested before any is written calls sizhbanto_check_scene
-// first.
+// The layout of the structs, which C11 and C++ test: a pointer and a length are 8 bytes each.
+#ifdef __cplusplus
+#define SIZHBANTO_SIZE(name, bytes) static_assert(sizeof(name) == bytes, #name);
+#define SIZHBANTO_OFFSET(name, field, bytes) static_assert(offsetof(name, field) == bytes, #name "." #field);
+#elif defined(__STDC_VERSION__) && __STDC_VERSION__ >= 201112L
+#define SIZHBANTO_SIZE(name, bytes) _Static_assert(sizeof(name) == bytes, #name);
+#define SIZHBANTO_OFFSET(name, field, bytes) _Static_assert(offsetof(name, field) == bytes, #name "." #field);
+#else
+#define SIZHBANTO_SIZE(name, bytes)
+#define SIZHBANTO_OFFSET(name, field, bytes)
+#endif
+SIZHBANTO_SIZE(SizhbantoComponents, 112)
+SIZHBANTO_OFFSET(SizhbantoComponents, ids, 0)
+SIZHBANTO_OFFSET(SizhbantoComponents, kinds, 16)
+SIZHBANTO_OFFSET(SizhbantoComponents, delays, 32)
+SIZHBANTO_OFFSET(SizhbantoComponents, locked, 48)
+SIZHBANTO_OFFSET(SizhbantoComponents, xs, 64)
+SIZHBANTO_OFFSET(SizhbantoComponents, ys, 80)
+SIZHBANTO_OFFSET(SizhbantoComponents, zs, 96)
+SIZHBANTO_SIZE(SizhbantoConnections, 48)
+SIZHBANTO_OFFSET(SizhbantoConnections, sources, 0)
+SIZHBANTO_OFFSET(SizhbantoConnections, sinks, 16)
+SIZHBANTO_OFFSET(SizhbantoConnections, transfers, 32)
+SIZHBANTO_SIZE(SizhbantoScene, 160)
+SIZHBANTO_OFFSET(SizhbantoScene, components, 0)
+SIZHBANTO_OFFSET(SizhbantoScene, connections, 112)
+SIZHBANTO_SIZE(SizhbantoEvents, 48)
+SIZHBANTO_OFFSET(SizhbantoEvents, ticks, 0)
+SIZHBANTO_OFFSET(SizhbantoEvents, components, 16)
+SIZHBANTO_OFFSET(SizhbantoEvents, powered, 32)
+SIZHBANTO_SIZE(SizhbantoContracts, 112)
+SIZHBANTO_OFFSET(SizhbantoContracts, components, 0)
+SIZHBANTO_OFFSET(SizhbantoContracts, intents, 16)
+SIZHBANTO_OFFSET(SizhbantoContracts, powered, 32)
+SIZHBANTO_OFFSET(SizhbantoContracts, polarities, 48)
+SIZHBANTO_OFFSET(SizhbantoContracts, units, 64)
+SIZHBANTO_OFFSET(SizhbantoContracts, smallest, 80)
+SIZHBANTO_OFFSET(SizhbantoContracts, largest, 96)
+SIZHBANTO_SIZE(SizhbantoTrace, 168)
+SIZHBANTO_OFFSET(SizhbantoTrace, unit, 0)
+SIZHBANTO_OFFSET(SizhbantoTrace, events, 8)
+SIZHBANTO_OFFSET(SizhbantoTrace, contracts, 56)
+SIZHBANTO_SIZE(SizhbantoTimedEdgeLists, 80)
+SIZHBANTO_OFFSET(SizhbantoTimedEdgeLists, sources, 0)
+SIZHBANTO_OFFSET(SizhbantoTimedEdgeLists, sinks, 16)
+SIZHBANTO_OFFSET(SizhbantoTimedEdgeLists, minimums, 32)
+SIZHBANTO_OFFSET(SizhbantoTimedEdgeLists, maximums, 48)
+SIZHBANTO_OFFSET(SizhbantoTimedEdgeLists, behaviors, 64)
+SIZHBANTO_SIZE(SizhbantoDeviceLists, 96)
+SIZHBANTO_OFFSET(SizhbantoDeviceLists, components, 0)
+SIZHBANTO_OFFSET(SizhbantoDeviceLists, xs, 16)
+SIZHBANTO_OFFSET(SizhbantoDeviceLists, ys, 32)
+SIZHBANTO_OFFSET(SizhbantoDeviceLists, zs, 48)
+SIZHBANTO_OFFSET(SizhbantoDeviceLists, semantics, 64)
+SIZHBANTO_OFFSET(SizhbantoDeviceLists, delays, 80)
+SIZHBANTO_SIZE(SizhbantoEvidenceLists, 80)
+SIZHBANTO_OFFSET(SizhbantoEvidenceLists, kinds, 0)
+SIZHBANTO_OFFSET(SizhbantoEvidenceLists, sources, 16)
+SIZHBANTO_OFFSET(SizhbantoEvidenceLists, sinks, 32)
+SIZHBANTO_OFFSET(SizhbantoEvidenceLists, components, 48)
+SIZHBANTO_OFFSET(SizhbantoEvidenceLists, blocks, 64)
+SIZHBANTO_SIZE(SizhbantoDescriptionLists, 256)
+SIZHBANTO_OFFSET(SizhbantoDescriptionLists, edges, 0)
+SIZHBANTO_OFFSET(SizhbantoDescriptionLists, devices, 80)
+SIZHBANTO_OFFSET(SizhbantoDescriptionLists, evidence, 176)
+SIZHBANTO_SIZE(SizhbantoReasonLists, 80)
+SIZHBANTO_OFFSET(SizhbantoReasonLists, kinds, 0)
+SIZHBANTO_OFFSET(SizhbantoReasonLists, components, 16)
+SIZHBANTO_OFFSET(SizhbantoReasonLists, blocks, 32)
+SIZHBANTO_OFFSET(SizhbantoReasonLists, minimums, 48)
+SIZHBANTO_OFFSET(SizhbantoReasonLists, maximums, 64)
+SIZHBANTO_SIZE(SizhbantoProjectionLists, 128)
+SIZHBANTO_OFFSET(SizhbantoProjectionLists, sources, 0)
+SIZHBANTO_OFFSET(SizhbantoProjectionLists, sinks, 16)
+SIZHBANTO_OFFSET(SizhbantoProjectionLists, inverted, 32)
+SIZHBANTO_OFFSET(SizhbantoProjectionLists, minimums, 48)
+SIZHBANTO_OFFSET(SizhbantoProjectionLists, maximums, 64)
+SIZHBANTO_OFFSET(SizhbantoProjectionLists, starts, 80)
+SIZHBANTO_OFFSET(SizhbantoProjectionLists, lengths, 96)
+SIZHBANTO_OFFSET(SizhbantoProjectionLists, path_ids, 112)
+SIZHBANTO_SIZE(SizhbantoLabelLists, 48)
+SIZHBANTO_OFFSET(SizhbantoLabelLists, settled, 0)
+SIZHBANTO_OFFSET(SizhbantoLabelLists, lows, 16)
+SIZHBANTO_OFFSET(SizhbantoLabelLists, highs, 32)
+SIZHBANTO_SIZE(SizhbantoAssessmentLists, 288)
+SIZHBANTO_OFFSET(SizhbantoAssessmentLists, reasons, 0)
+SIZHBANTO_OFFSET(SizhbantoAssessmentLists, feedback_ids, 80)
+SIZHBANTO_OFFSET(SizhbantoAssessmentLists, marks, 96)
+SIZHBANTO_OFFSET(SizhbantoAssessmentLists, projected, 112)
+SIZHBANTO_OFFSET(SizhbantoAssessmentLists, labels, 240)
+SIZHBANTO_SIZE(SizhbantoSceneLists, 544)
+SIZHBANTO_OFFSET(SizhbantoSceneLists, description, 0)
+SIZHBANTO_OFFSET(SizhbantoSceneLists, assessment, 256)
+SIZHBANTO_SIZE(SizhbantoFindings, 192)
+SIZHBANTO_OFFSET(SizhbantoFindings, components, 0)
+SIZHBANTO_OFFSET(SizhbantoFindings, polarities, 16)
+SIZHBANTO_OFFSET(SizhbantoFindings, units, 32)
+SIZHBANTO_OFFSET(SizhbantoFindings, start_ticks, 48)
+SIZHBANTO_OFFSET(SizhbantoFindings, end_ticks, 64)
+SIZHBANTO_OFFSET(SizhbantoFindings, widths, 80)
+SIZHBANTO_OFFSET(SizhbantoFindings, steady, 96)
+SIZHBANTO_OFFSET(SizhbantoFindings, baselines, 112)
+SIZHBANTO_OFFSET(SizhbantoFindings, starts, 128)
+SIZHBANTO_OFFSET(SizhbantoFindings, ends, 144)
+SIZHBANTO_OFFSET(SizhbantoFindings, verdicts, 160)
+SIZHBANTO_OFFSET(SizhbantoFindings, rationales, 176)
+SIZHBANTO_SIZE(SizhbantoCheckedNumbers, 16)
+SIZHBANTO_OFFSET(SizhbantoCheckedNumbers, number, 0)
+SIZHBANTO_OFFSET(SizhbantoCheckedNumbers, place, 8)
+SIZHBANTO_SIZE(SizhbantoFeedbackNumbers, 32)
+SIZHBANTO_OFFSET(SizhbantoFeedbackNumbers, number, 0)
+SIZHBANTO_OFFSET(SizhbantoFeedbackNumbers, place, 8)
+SIZHBANTO_OFFSET(SizhbantoFeedbackNumbers, feedback, 16)
+SIZHBANTO_OFFSET(SizhbantoFeedbackNumbers, reasons, 24)
+SIZHBANTO_SIZE(SizhbantoDescriptionNumbers, 40)
+SIZHBANTO_OFFSET(SizhbantoDescriptionNumbers, number, 0)
+SIZHBANTO_OFFSET(SizhbantoDescriptionNumbers, place, 8)
+SIZHBANTO_OFFSET(SizhbantoDescriptionNumbers, timed_edges, 16)
+SIZHBANTO_OFFSET(SizhbantoDescriptionNumbers, devices, 24)
+SIZHBANTO_OFFSET(SizhbantoDescriptionNumbers, evidence, 32)
+SIZHBANTO_SIZE(SizhbantoSceneNumbers, 72)
+SIZHBANTO_OFFSET(SizhbantoSceneNumbers, number, 0)
+SIZHBANTO_OFFSET(SizhbantoSceneNumbers, place, 8)
+SIZHBANTO_OFFSET(SizhbantoSceneNumbers, scope, 16)
+SIZHBANTO_OFFSET(SizhbantoSceneNumbers, pattern, 17)
+SIZHBANTO_OFFSET(SizhbantoSceneNumbers, confidence, 18)
+SIZHBANTO_OFFSET(SizhbantoSceneNumbers, reasons, 24)
+SIZHBANTO_OFFSET(SizhbantoSceneNumbers, feedback, 32)
+SIZHBANTO_OFFSET(SizhbantoSceneNumbers, retained, 40)
+SIZHBANTO_OFFSET(SizhbantoSceneNumbers, compressed, 48)
+SIZHBANTO_OFFSET(SizhbantoSceneNumbers, projected, 56)
+SIZHBANTO_OFFSET(SizhbantoSceneNumbers, path_ids, 64)
+SIZHBANTO_SIZE(SizhbantoAnalysisNumbers, 96)
+SIZHBANTO_OFFSET(SizhbantoAnalysisNumbers, number, 0)
+SIZHBANTO_OFFSET(SizhbantoAnalysisNumbers, place, 8)
+SIZHBANTO_OFFSET(SizhbantoAnalysisNumbers, timed_edges, 16)
+SIZHBANTO_OFFSET(SizhbantoAnalysisNumbers, devices, 24)
+SIZHBANTO_OFFSET(SizhbantoAnalysisNumbers, evidence, 32)
+SIZHBANTO_OFFSET(SizhbantoAnalysisNumbers, scope, 40)
+SIZHBANTO_OFFSET(SizhbantoAnalysisNumbers, pattern, 41)
+SIZHBANTO_OFFSET(SizhbantoAnalysisNumbers, confidence, 42)
+SIZHBANTO_OFFSET(SizhbantoAnalysisNumbers, reasons, 48)
+SIZHBANTO_OFFSET(SizhbantoAnalysisNumbers, feedback, 56)
+SIZHBANTO_OFFSET(SizhbantoAnalysisNumbers, retained, 64)
+SIZHBANTO_OFFSET(SizhbantoAnalysisNumbers, compressed, 72)
+SIZHBANTO_OFFSET(SizhbantoAnalysisNumbers, projected, 80)
+SIZHBANTO_OFFSET(SizhbantoAnalysisNumbers, path_ids, 88)
+SIZHBANTO_SIZE(SizhbantoPathPart, 16)
+SIZHBANTO_OFFSET(SizhbantoPathPart, start, 0)
+SIZHBANTO_OFFSET(SizhbantoPathPart, length, 8)
+SIZHBANTO_SIZE(SizhbantoAssessedTrace, 72)
+SIZHBANTO_OFFSET(SizhbantoAssessedTrace, number, 0)
+SIZHBANTO_OFFSET(SizhbantoAssessedTrace, place, 8)
+SIZHBANTO_OFFSET(SizhbantoAssessedTrace, findings, 16)
+SIZHBANTO_OFFSET(SizhbantoAssessedTrace, contracts_applied, 24)
+SIZHBANTO_OFFSET(SizhbantoAssessedTrace, tallies, 32)
+SIZHBANTO_SIZE(SizhbantoTransientRecord, 56)
+SIZHBANTO_OFFSET(SizhbantoTransientRecord, traces, 0)
+SIZHBANTO_OFFSET(SizhbantoTransientRecord, findings, 8)
+SIZHBANTO_OFFSET(SizhbantoTransientRecord, tallies, 16)
+SIZHBANTO_SIZE(SizhbantoRecordedTrace, 88)
+SIZHBANTO_OFFSET(SizhbantoRecordedTrace, number, 0)
+SIZHBANTO_OFFSET(SizhbantoRecordedTrace, place, 8)
+SIZHBANTO_OFFSET(SizhbantoRecordedTrace, findings, 16)
+SIZHBANTO_OFFSET(SizhbantoRecordedTrace, contracts_applied, 24)
+SIZHBANTO_OFFSET(SizhbantoRecordedTrace, held, 32)
+SIZHBANTO_SIZE(SizhbantoFoundNumbers, 16)
+SIZHBANTO_OFFSET(SizhbantoFoundNumbers, found, 0)
+SIZHBANTO_OFFSET(SizhbantoFoundNumbers, position, 8)
+SIZHBANTO_SIZE(SizhbantoReconverged, 16)
+SIZHBANTO_OFFSET(SizhbantoReconverged, fits, 0)
+SIZHBANTO_OFFSET(SizhbantoReconverged, unequal, 8)
+#undef SIZHBANTO_SIZE
+#undef SIZHBANTO_OFFSET
 
-// The first refusal of a scene, if any. room has the shortest length of each output list that is to be written, from
-// the list of number first on; where it is empty, none is tested.
+// The scene calls.
+
+// Lists 0 to 8, all tested before any is written.
+SizhbantoAnalysisNumbers sizhbanto_analyze_scene(
+    const SizhbantoScene *scene,
+    SizhbantoSceneLists *lists
+);
+
+// Lists 0 to 2: the first of the two parts of sizhbanto_analyze_scene as calls of their own. They write what that
+// writes. A scene that one of the three refuses is refused alike by all, but for lists that are too short: each tests
+// those alone that it writes, so one part may write where the other, and sizhbanto_analyze_scene, answer 7.
+SizhbantoDescriptionNumbers sizhbanto_describe_scene(
+    const SizhbantoScene *scene,
+    SizhbantoDescriptionLists *lists
+);
+
+// Lists 3 to 8: the other part.
+SizhbantoSceneNumbers sizhbanto_assess_scene(
+    const SizhbantoScene *scene,
+    SizhbantoAssessmentLists *lists
+);
+
+// The first refusal of a scene, if any; nothing is written. room has the shortest length of each list that some other
+// call would write, from the list of number first on; where it is empty, none is tested.
 SizhbantoCheckedNumbers sizhbanto_check_scene(
-    // components: N
-    const uint64_t *ids, size_t ids_length,
-    const uint8_t *kinds, size_t kinds_length,
-    const uint16_t *delays, size_t delays_length,
-    const uint8_t *locked, size_t locked_length,
-    const int32_t *xs, size_t xs_length,
-    const int32_t *ys, size_t ys_length,
-    const int32_t *zs, size_t zs_length,
-    // connections: M
-    const uint64_t *sources, size_t sources_length,
-    const uint64_t *sinks, size_t sinks_length,
-    const uint8_t *transfers, size_t transfers_length,
+    const SizhbantoScene *scene,
     size_t first,
     const size_t *room, size_t room_length
 );
 
 // List 4 alone.
 SizhbantoFeedbackNumbers sizhbanto_feedback_scene(
-    // components: N
-    const uint64_t *ids, size_t ids_length,
-    const uint8_t *kinds, size_t kinds_length,
-    const uint16_t *delays, size_t delays_length,
-    const uint8_t *locked, size_t locked_length,
-    const int32_t *xs, size_t xs_length,
-    const int32_t *ys, size_t ys_length,
-    const int32_t *zs, size_t zs_length,
-    // connections: M
-    const uint64_t *sources, size_t sources_length,
-    const uint64_t *sinks, size_t sinks_length,
-    const uint8_t *transfers, size_t transfers_length,
+    const SizhbantoScene *scene,
     // list 4, feedback: N
     uint64_t *feedback_ids, size_t feedback_ids_length
-);
-
-// Lists 0, 1 and 2. Timed edges and the evidence of connections are in connection order; devices, and after the
-// connections their evidence, in component order.
-SizhbantoDescriptionNumbers sizhbanto_describe_scene(
-    // components: N
-    const uint64_t *ids, size_t ids_length,
-    const uint8_t *kinds, size_t kinds_length,
-    const uint16_t *delays, size_t delays_length,
-    const uint8_t *locked, size_t locked_length,
-    const int32_t *xs, size_t xs_length,
-    const int32_t *ys, size_t ys_length,
-    const int32_t *zs, size_t zs_length,
-    // connections: M
-    const uint64_t *sources, size_t sources_length,
-    const uint64_t *sinks, size_t sinks_length,
-    const uint8_t *transfers, size_t transfers_length,
-    // list 0, timed edges: M
-    uint64_t *edge_sources, size_t edge_sources_length,
-    uint64_t *edge_sinks, size_t edge_sinks_length,
-    uint32_t *edge_minimums, size_t edge_minimums_length,
-    uint32_t *edge_maximums, size_t edge_maximums_length,
-    uint8_t *edge_behaviors, size_t edge_behaviors_length,
-    // list 1, devices: N
-    uint64_t *device_components, size_t device_components_length,
-    int32_t *device_xs, size_t device_xs_length,
-    int32_t *device_ys, size_t device_ys_length,
-    int32_t *device_zs, size_t device_zs_length,
-    uint8_t *device_semantics, size_t device_semantics_length,
-    uint32_t *device_delays, size_t device_delays_length,
-    // list 2, evidence: M + N
-    uint8_t *evidence_kinds, size_t evidence_kinds_length,
-    uint64_t *evidence_sources, size_t evidence_sources_length,
-    uint64_t *evidence_sinks, size_t evidence_sinks_length,
-    uint64_t *evidence_components, size_t evidence_components_length,
-    uint8_t *evidence_blocks, size_t evidence_blocks_length
-);
-
-// Lists 3 to 8. Reasons: Feedback, then stateful devices and locked repeaters in component order, then unequal delays
-// by rising id. Marks and labels are in component order; both sums of a label are 0 where it is not settled. A
-// projected edge's path is a part of list 7, its ends included.
-SizhbantoSceneNumbers sizhbanto_assess_scene(
-    // components: N
-    const uint64_t *ids, size_t ids_length,
-    const uint8_t *kinds, size_t kinds_length,
-    const uint16_t *delays, size_t delays_length,
-    const uint8_t *locked, size_t locked_length,
-    const int32_t *xs, size_t xs_length,
-    const int32_t *ys, size_t ys_length,
-    const int32_t *zs, size_t zs_length,
-    // connections: M
-    const uint64_t *sources, size_t sources_length,
-    const uint64_t *sinks, size_t sinks_length,
-    const uint8_t *transfers, size_t transfers_length,
-    // list 3, reasons: 2N + 1
-    uint8_t *reason_kinds, size_t reason_kinds_length,
-    uint64_t *reason_components, size_t reason_components_length,
-    uint8_t *reason_blocks, size_t reason_blocks_length,
-    uint32_t *reason_minimums, size_t reason_minimums_length,
-    uint32_t *reason_maximums, size_t reason_maximums_length,
-    // list 4, feedback: N
-    uint64_t *feedback_ids, size_t feedback_ids_length,
-    // list 5, marks: N
-    uint8_t *marks, size_t marks_length,
-    // list 6, projected edges: M
-    uint64_t *projected_sources, size_t projected_sources_length,
-    uint64_t *projected_sinks, size_t projected_sinks_length,
-    uint8_t *projected_inverted, size_t projected_inverted_length,
-    uint32_t *projected_minimums, size_t projected_minimums_length,
-    uint32_t *projected_maximums, size_t projected_maximums_length,
-    size_t *projected_starts, size_t projected_starts_length,
-    size_t *projected_lengths, size_t projected_lengths_length,
-    // list 7, paths: 2M + N
-    uint64_t *path_ids, size_t path_ids_length,
-    // list 8, labels: N
-    uint8_t *label_settled, size_t label_settled_length,
-    uint32_t *label_lows, size_t label_lows_length,
-    uint32_t *label_highs, size_t label_highs_length
 );
 
 // The path of one projected edge: a part of paths, list 7, by the starts and lengths of list 6. An edge past the end
@@ -401,69 +678,17 @@ SizhbantoPathPart sizhbanto_projected_path(
     size_t edge
 );
 
-// The trace calls. Contracts rise by component. Findings are in pulse order: by rising component, then in the order
-// of the events. The three event indices of a finding are those of the events before, at the start and at the end of
-// its pulse.
-
 // The findings of one trace, list 9.
 SizhbantoAssessedTrace sizhbanto_assess_transients(
-    uint8_t unit,
-    // events: E
-    const uint64_t *ticks, size_t ticks_length,
-    const uint64_t *components, size_t components_length,
-    const uint8_t *powered, size_t powered_length,
-    // contracts: C
-    const uint64_t *contract_components, size_t contract_components_length,
-    const uint8_t *contract_intents, size_t contract_intents_length,
-    const uint8_t *contract_powered, size_t contract_powered_length,
-    const uint8_t *contract_polarities, size_t contract_polarities_length,
-    const uint8_t *contract_units, size_t contract_units_length,
-    const uint64_t *contract_smallest, size_t contract_smallest_length,
-    const uint64_t *contract_largest, size_t contract_largest_length,
-    // list 9, findings: E
-    uint64_t *finding_components, size_t finding_components_length,
-    uint8_t *finding_polarities, size_t finding_polarities_length,
-    uint8_t *finding_units, size_t finding_units_length,
-    uint64_t *finding_start_ticks, size_t finding_start_ticks_length,
-    uint64_t *finding_end_ticks, size_t finding_end_ticks_length,
-    uint64_t *finding_widths, size_t finding_widths_length,
-    uint8_t *finding_steady, size_t finding_steady_length,
-    size_t *finding_baselines, size_t finding_baselines_length,
-    size_t *finding_starts, size_t finding_starts_length,
-    size_t *finding_ends, size_t finding_ends_length,
-    uint8_t *finding_verdicts, size_t finding_verdicts_length,
-    uint8_t *finding_rationales, size_t finding_rationales_length
+    const SizhbantoTrace *trace,
+    SizhbantoFindings *findings
 );
 
 // The same with a running record: the findings are written after those held.
 SizhbantoRecordedTrace sizhbanto_record_trace(
     SizhbantoTransientRecord held,
-    uint8_t unit,
-    // events: E
-    const uint64_t *ticks, size_t ticks_length,
-    const uint64_t *components, size_t components_length,
-    const uint8_t *powered, size_t powered_length,
-    // contracts: C
-    const uint64_t *contract_components, size_t contract_components_length,
-    const uint8_t *contract_intents, size_t contract_intents_length,
-    const uint8_t *contract_powered, size_t contract_powered_length,
-    const uint8_t *contract_polarities, size_t contract_polarities_length,
-    const uint8_t *contract_units, size_t contract_units_length,
-    const uint64_t *contract_smallest, size_t contract_smallest_length,
-    const uint64_t *contract_largest, size_t contract_largest_length,
-    // list 9, findings: H + E
-    uint64_t *finding_components, size_t finding_components_length,
-    uint8_t *finding_polarities, size_t finding_polarities_length,
-    uint8_t *finding_units, size_t finding_units_length,
-    uint64_t *finding_start_ticks, size_t finding_start_ticks_length,
-    uint64_t *finding_end_ticks, size_t finding_end_ticks_length,
-    uint64_t *finding_widths, size_t finding_widths_length,
-    uint8_t *finding_steady, size_t finding_steady_length,
-    size_t *finding_baselines, size_t finding_baselines_length,
-    size_t *finding_starts, size_t finding_starts_length,
-    size_t *finding_ends, size_t finding_ends_length,
-    uint8_t *finding_verdicts, size_t finding_verdicts_length,
-    uint8_t *finding_rationales, size_t finding_rationales_length
+    const SizhbantoTrace *trace,
+    SizhbantoFindings *findings
 );
 
 // The passes that have no limit of size. Nodes and positions are numbers from 0. Where the lists don't fit, nothing

@@ -17,42 +17,46 @@ CONNECTION = {"source": "sources", "sink": "sinks", "transfer": "transfers"}
 
 def read_scene(path, absent_delay):
     """The ten lists of a scene."""
-    lists = {name: [] for name in (*COMPONENT.values(), *CONNECTION.values())}
+    components, connections = ({name: [] for name in fields.values()} for fields in (COMPONENT, CONNECTION))
     with open(path, encoding="ascii") as file:
         for line in file:
             field, value = line.strip().split("=")
-            name = COMPONENT.get(field) or CONNECTION.get(field)
-            if name:
-                lists[name].append(absent_delay if value == "none" else int(value))
-    return lists
+            number = absent_delay if value == "none" else value
+            if field in COMPONENT:
+                components[COMPONENT[field]].append(int(number))
+            elif field in CONNECTION:
+                connections[CONNECTION[field]].append(int(number))
+    return {"components": components, "connections": connections}
 
 
-def reason(kind, wrote, i, feedback):
-    component = wrote["reason_components"][i]
+def reason(kind, assessment, i, feedback):
+    reasons = assessment.reasons
     if kind == "feedback":
-        return "feedback:" + ",".join(map(str, wrote["feedback_ids"][:feedback]))
+        return "feedback:" + ",".join(map(str, assessment.feedback_ids[:feedback]))
     if kind == "unequal_reconvergent_delay":
-        return f"unequal:{component}:{wrote['reason_minimums'][i]}:{wrote['reason_maximums'][i]}"
-    return f"{kind.split('_')[0]}:{component}"
+        return f"unequal:{reasons.components[i]}:{reasons.minimums[i]}:{reasons.maximums[i]}"
+    return f"{kind.split('_')[0]}:{reasons.components[i]}"
 
 
-def label(wrote, i):
-    return f"{wrote['label_lows'][i]},{wrote['label_highs'][i]}" if wrote["label_settled"][i] else "unsettled"
+def label(labels, i):
+    return f"{labels.lows[i]},{labels.highs[i]}" if labels.settled[i] else "unsettled"
 
 
 def main():
     calls = library.Library()
-    scene = read_scene(sys.argv[1], calls.header.constants["ABSENT_DELAY"])
-    answer, wrote = calls.call("sizhbanto_assess_scene", scene, N=len(scene["ids"]), M=len(scene["sources"]))
+    given = read_scene(sys.argv[1], calls.header.constants["ABSENT_DELAY"])
+    ids, sources = given["components"]["ids"], given["connections"]["sources"]
+    scene, lists = calls.make("SizhbantoScene", given), calls.room("SizhbantoSceneLists", N=len(ids), M=len(sources))
+    answer = calls.call("sizhbanto_analyze_scene", scene, lists)
     if answer.number:
         print(f"refusal={answer.number}\nplace={answer.place}")
         return
     print(f"scope={calls.names('TemporalScope')[answer.scope]}\nreasons={answer.reasons}")
     for i in range(answer.reasons):
-        kind = calls.names("TimingReason")[wrote["reason_kinds"][i]]
-        print("reason=" + reason(kind, wrote, i, answer.feedback))
-    for i, component in enumerate(scene["ids"]):
-        print(f"component={component}\nlabel={label(wrote, i)}")
+        kind = calls.names("TimingReason")[lists.assessment.reasons.kinds[i]]
+        print("reason=" + reason(kind, lists.assessment, i, answer.feedback))
+    for i, component in enumerate(ids):
+        print(f"component={component}\nlabel={label(lists.assessment.labels, i)}")
 
 
 if __name__ == "__main__":

@@ -5,24 +5,33 @@ from collections import namedtuple
 
 PATH = os.path.join(os.path.dirname(os.path.abspath(__file__)), "../c/sizhbanto.h")
 
-# constants and enums map names to numbers, structs to fields, functions to their result and parameters
-Header = namedtuple("Header", "constants enums structs functions")
-# a struct's field; count is None where it is no array
-Field = namedtuple("Field", "name type count")
-# access is "read" or "written" of a list and None of a number; group has a list's `// name: entries`, or None
-Parameter = namedtuple("Parameter", "name type access group")
+# constants and enums map names to numbers, structs to their fields, functions to their result and parameters; layout
+# has a triple for each of its lines: struct, field or None, bytes
+Header = namedtuple("Header", "constants enums structs functions layout")
+# a struct's field or a function's parameter. form is what it is: a value, a list or a pointer to a struct of lists.
+# count is that of an array, else None; group has a list's `// name: entries`, else None
+Part = namedtuple("Part", "name type form count group")
 Function = namedtuple("Function", "result parameters")
 
+VALUE, READ_LIST, WRITTEN_LIST, READ_STRUCT, WRITTEN_STRUCT = (
+    "value", "list that is read", "list that is written", "struct that is read", "struct that is written")
+
 COMMENT = re.compile(r" *//(?: ?(.*))?")
-FRAME = re.compile(r'#(?:ifndef|define) SIZHBANTO_H|#ifdef __cplusplus|#endif|#include <\w+\.h>|extern "C" \{|\}|')
+FRAME = re.compile(r'#(?!define SIZHBANTO_\w+ ).*|extern "C" \{|\}|')
 CONSTANT = re.compile(r"#define SIZHBANTO_(\w+) (\d+)")
+LAYOUT = re.compile(r"SIZHBANTO_(?:SIZE\((\w+)|OFFSET\((\w+), (\w+)), (\d+)\)")
 ENUM = re.compile(r"enum Sizhbanto(\w+) \{")
-VALUE = re.compile(r"    SIZHBANTO_(\w+) = (\d+),")
-STRUCT = re.compile(r"typedef struct Sizhbanto(\w+) \{")
-FIELD = re.compile(r"    (\w+) (\w+)(?:\[(\d+)\])?;")
+ENUM_VALUE = re.compile(r"    SIZHBANTO_(\w+) = (\d+),")
+STRUCT = re.compile(r"typedef struct (Sizhbanto\w+) \{")
 FUNCTION = re.compile(r"(\w+) (sizhbanto_\w+)\(")
-NUMBER = re.compile(r"    (\w+) (\w+)(,?)")
-LIST = re.compile(r"    (const )?(\w+) \*(\w+), size_t (\w+)_length(,?)")
+# of a line without its last sign
+PARTS = {
+    VALUE: re.compile(r"    (?P<type>\w+) (?P<name>\w+)(?:\[(?P<count>\d+)\])?"),
+    READ_LIST: re.compile(r"    const (?P<type>\w+) \*(?P<name>\w+)[,;] size_t (?P=name)_length"),
+    WRITTEN_LIST: re.compile(r"    (?P<type>\w+) \*(?P<name>\w+)[,;] size_t (?P=name)_length"),
+    READ_STRUCT: re.compile(r"    const (?P<type>Sizhbanto\w+) \*(?P<name>\w+)"),
+    WRITTEN_STRUCT: re.compile(r"    (?P<type>Sizhbanto\w+) \*(?P<name>\w+)"),
+}
 
 
 class NotInForm(Exception):
@@ -40,13 +49,15 @@ def read(path=PATH):
 
 
 def parse(text):
-    header = Header({}, {}, {}, {})
+    header = Header({}, {}, {}, {}, [])
     lines = enumerate(text.splitlines(), 1)
     for at, line in lines:
-        if COMMENT.fullmatch(line) or FRAME.fullmatch(line):
-            continue
         if found := CONSTANT.fullmatch(line):
             add(header.constants, found[1], int(found[2]), at)
+        elif COMMENT.fullmatch(line) or FRAME.fullmatch(line):
+            continue
+        elif found := LAYOUT.fullmatch(line):
+            header.layout.append((found[1] or found[2], found[3], int(found[4])))
         elif found := ENUM.fullmatch(line):
             add(header.enums, found[1], values(upper(found[1]), lines), at)
         elif found := STRUCT.fullmatch(line):
@@ -69,22 +80,36 @@ def values(prefix, lines):
     for at, line in lines:
         if line == "};":
             return found
-        value = VALUE.fullmatch(line)
+        value = ENUM_VALUE.fullmatch(line)
         if not value or not value[1].startswith(prefix + "_"):
             raise NotInForm(f"line {at} of the header is no value of its enum: {line}")
         add(found, value[1][len(prefix) + 1:], int(value[2]), at)
     raise NotInForm("the header ends within an enum")
 
 
+def part(line, forms, group):
+    """What a line declares in one of the forms, or None."""
+    for form in forms:
+        if found := PARTS[form].fullmatch(line):
+            count = found.groupdict().get("count")
+            listed = form in (READ_LIST, WRITTEN_LIST)
+            return Part(found["name"], found["type"], form, int(count) if count else None, group if listed else None)
+    return None
+
+
 def fields(name, lines):
-    found = []
+    found, group = [], None
     for at, line in lines:
-        if line == f"}} Sizhbanto{name};":
+        if line == f"}} {name};":
             return found
-        field = FIELD.fullmatch(line)
-        if not field:
+        if comment := COMMENT.fullmatch(line):
+            group = comment[1]
+            continue
+        field = part(line[:-1], (VALUE, READ_LIST, WRITTEN_LIST), group)
+        if not field or line[-1] != ";" or "," in line:
             raise NotInForm(f"line {at} of the header is no field: {line}")
-        found.append(Field(field[2], field[1], int(field[3]) if field[3] else None))
+        group = field.group
+        found.append(field)
     raise NotInForm("the header ends within a struct")
 
 
@@ -96,13 +121,9 @@ def parameters(lines):
         if comment := COMMENT.fullmatch(line):
             group = comment[1]
             continue
-        number, many = NUMBER.fullmatch(line), LIST.fullmatch(line)
-        if many and more and many[3] == many[4]:
-            found.append(Parameter(many[3], many[2], "read" if many[1] else "written", group))
-        elif number and more:
-            group = None
-            found.append(Parameter(number[2], number[1], None, None))
-        else:
+        parameter = part(line.removesuffix(","), PARTS, group)
+        if not parameter or not more or parameter.count or ";" in line:
             raise NotInForm(f"line {at} of the header is no parameter: {line}")
-        more = (many or number)[(many or number).lastindex] == ","
+        group, more = parameter.group, line.endswith(",")
+        found.append(parameter)
     raise NotInForm("the header ends within a function")

@@ -5,7 +5,7 @@
 
 #include "check.h"
 
-enum { LENT = 64, GUARD = 64, OLD = 0xA5 };
+enum { LENT = 72, GUARD = 64, OLD = 0xA5 };
 
 static struct {
     unsigned char *start;
@@ -49,15 +49,28 @@ static bool old(const unsigned char *from, const unsigned char *to) {
     return from == to;
 }
 
-bool holds(const void *list, const void *entries, size_t bytes) {
-    for (size_t i = 0; i < lists; i += 1) {
-        const unsigned char *start = lent[i].start, *first = start + GUARD, *end = first + lent[i].bytes + GUARD;
-        if (first == list) {
-            return bytes <= lent[i].bytes && memcmp(first, entries, bytes) == 0 && old(start, first) &&
-                   old(first + bytes, end);
-        }
+// Which lent list it is; lists, if none.
+static size_t place_of(const void *list) {
+    size_t i = 0;
+    while (i < lists && lent[i].start + GUARD != list) {
+        i += 1;
     }
-    return false;
+    return i;
+}
+
+bool holds(const void *list, const void *entries, size_t bytes) {
+    size_t i = place_of(list);
+    if (i == lists || bytes > lent[i].bytes) {
+        return false;
+    }
+    const unsigned char *start = lent[i].start, *first = start + GUARD, *end = first + lent[i].bytes + GUARD;
+    return memcmp(first, entries, bytes) == 0 && old(start, first) && old(first + bytes, end);
+}
+
+bool alike(const void *list, const void *other) {
+    size_t i = place_of(list), j = place_of(other);
+    return i < lists && j < lists && lent[i].bytes == lent[j].bytes &&
+           memcmp(lent[i].start, lent[j].start, lent[i].bytes + 2 * GUARD) == 0;
 }
 
 bool all_kept(void) {

@@ -16,6 +16,8 @@ void *lend(size_t entries, size_t width);
 void take_back(void);
 // Whether a lent list begins with these entries, and all else of it and about it is as it was lent.
 bool holds(const void *list, const void *entries, size_t bytes);
+// Whether two lent lists and all about them are the same.
+bool alike(const void *list, const void *other);
 // Whether every lent list is as it was lent.
 bool all_kept(void);
 

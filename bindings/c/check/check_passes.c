@@ -1,5 +1,5 @@
 // The passes that have no limit of size.
-#include "../sizhbanto.h"
+#include "sizhbanto.h"
 #include "check.h"
 
 static void sorted_and_found(void) {
@@ -61,7 +61,20 @@ static void reconverged(void) {
     HOLDS(size_t, unequal, 2);
 }
 
+// The pointer of every list without entries may be NULL.
+static void empty_without_lists(void) {
+    CHECK(sizhbanto_sort_positions(NULL, 0, NULL, 0, NULL, 0));
+    CHECK(!sizhbanto_find_position(NULL, 0, NULL, 0, 0).found);
+    CHECK(sizhbanto_mark_shared_components(NULL, 0, NULL, 0, NULL, 0, NULL, 0, NULL, 0, NULL, 0, NULL, 0));
+    SizhbantoReconverged got = sizhbanto_reconvergent_delay_reasons(
+        NULL, 0, NULL, 0, NULL, 0, NULL, 0, NULL, 0, NULL, 0, NULL, 0, NULL, 0, NULL, 0, NULL, 0, NULL, 0, NULL, 0,
+        NULL, 0, NULL, 0);
+    CHECK(got.fits && got.unequal == 0);
+    CHECK(sizhbanto_projected_path(NULL, 0, NULL, 0, NULL, 0, 0).length == 0);
+}
+
 void check_passes(void) {
+    empty_without_lists();
     sorted_and_found();
     marked();
     reconverged();

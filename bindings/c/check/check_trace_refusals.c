@@ -4,7 +4,7 @@
 #include "trace.h"
 
 static Trace trace;
-static Findings findings;
+static SizhbantoFindings findings;
 static SizhbantoTransientRecord held;
 
 // A trace with two contracts, and a record of two traces.
@@ -17,7 +17,8 @@ static void good(void) {
 }
 
 static bool assessed_by(uint32_t number, uint64_t place) {
-    SizhbantoAssessedTrace got = assess_trace(&trace, &findings);
+    SizhbantoTrace lent = lent_trace(&trace);
+    SizhbantoAssessedTrace got = assess_trace(&lent, &findings);
     uint64_t sum = got.findings + got.contracts_applied;
     for (size_t k = 0; k < 5; k += 1) {
         sum += got.tallies[k];
@@ -26,13 +27,14 @@ static bool assessed_by(uint32_t number, uint64_t place) {
 }
 
 static bool recorded_by(uint32_t number, uint64_t place) {
-    SizhbantoRecordedTrace got = record(held, &trace, &findings);
+    SizhbantoTrace lent = lent_trace(&trace);
+    SizhbantoRecordedTrace got = record(held, &lent, &findings);
     return got.number == number && got.place == place && got.findings + got.contracts_applied == 0 &&
            memcmp(&got.held, &held, sizeof held) == 0;
 }
 
-#define REFUSED(number, place)                                              \
-    lend_findings(&findings, held.findings + trace.n[0]);                   \
+#define REFUSED(number, place)                            \
+    lend_findings(&findings, held.findings + trace.n[0]); \
     CHECK(assessed_by(number, place) && recorded_by(number, place) && all_kept())
 
 static void sizes(void) {
@@ -89,14 +91,15 @@ static void unused_fields(void) {
     good();
     trace.polarities[0] = trace.units[0] = trace.wanted[1] = 255;
     lend_findings(&findings, held.findings + trace.n[0]);
-    CHECK(assess_trace(&trace, &findings).findings == 1);
+    SizhbantoTrace lent = lent_trace(&trace);
+    CHECK(assess_trace(&lent, &findings).findings == 1);
 }
 
 // Each number list of list 9 by itself one entry too short.
 static void rooms(void) {
     good();
     lend_findings(&findings, held.findings + trace.n[0]);
-#define SHORT(type, name)                                           \
+#define SHORT(name)                                                 \
     findings.name##_length -= 1;                                    \
     CHECK(recorded_by(SIZHBANTO_REFUSAL_NUMBER_LIST_TOO_SHORT, 9)); \
     findings.name##_length = trace.n[0] - 1;                        \

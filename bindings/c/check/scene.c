@@ -1,3 +1,5 @@
+#include <string.h>
+
 #include "scene.h"
 
 void component(Scene *scene, uint64_t id, uint8_t kind, uint16_t delay) {
@@ -26,35 +28,48 @@ size_t need(const Scene *scene, size_t k) {
     return needs[k];
 }
 
-void lend_lists(Lists *lists, const Scene *scene, size_t more) {
-    take_back();
-#define LEND(list, type, name)                        \
+void lend_lists(SizhbantoSceneLists *lists, const Scene *scene, size_t more) {
+#define LEND(list, name)                             \
     lists->name##_length = need(scene, list) + more; \
-    lists->name = lend(lists->name##_length, sizeof(type));
-    DESCRIBE_LISTS(LEND)
-    ASSESS_LISTS(LEND)
+    lists->name = lend(lists->name##_length, sizeof *lists->name);
+    DESCRIPTION_LISTS(LEND)
+    ASSESSMENT_LISTS(LEND)
 }
 
-#define SCENE(s)                                                                                          \
-    (s)->ids, (s)->n[0], (s)->kinds, (s)->n[1], (s)->delays, (s)->n[2], (s)->locked, (s)->n[3], (s)->xs, \
-        (s)->n[4], (s)->ys, (s)->n[5], (s)->zs, (s)->n[6], (s)->sources, (s)->m[0], (s)->sinks, (s)->m[1], \
-        (s)->transfers, (s)->m[2]
-#define LENT(list, type, name) , lists->name, lists->name##_length
-
-SizhbantoDescriptionNumbers describe(const Scene *scene, const Lists *lists) {
-    return sizhbanto_describe_scene(SCENE(scene) DESCRIBE_LISTS(LENT));
+SizhbantoScene lent_scene(const Scene *scene) {
+    return (SizhbantoScene){
+        .components = {.ids = scene->ids, .ids_length = scene->n[0],
+                       .kinds = scene->kinds, .kinds_length = scene->n[1],
+                       .delays = scene->delays, .delays_length = scene->n[2],
+                       .locked = scene->locked, .locked_length = scene->n[3],
+                       .xs = scene->xs, .xs_length = scene->n[4],
+                       .ys = scene->ys, .ys_length = scene->n[5],
+                       .zs = scene->zs, .zs_length = scene->n[6]},
+        .connections = {.sources = scene->sources, .sources_length = scene->m[0],
+                        .sinks = scene->sinks, .sinks_length = scene->m[1],
+                        .transfers = scene->transfers, .transfers_length = scene->m[2]},
+    };
 }
 
-SizhbantoSceneNumbers assess(const Scene *scene, const Lists *lists) {
-    return sizhbanto_assess_scene(SCENE(scene) ASSESS_LISTS(LENT));
+SizhbantoAnalysisNumbers analyze(const SizhbantoScene *scene, SizhbantoSceneLists *lists) {
+    const SizhbantoSceneLists before = *lists;
+    SizhbantoAnalysisNumbers got = sizhbanto_analyze_scene(scene, lists);
+    CHECK(memcmp(&before, lists, sizeof before) == 0);
+    return got;
 }
 
-SizhbantoFeedbackNumbers feedback(const Scene *scene, const Lists *lists) {
-    return sizhbanto_feedback_scene(SCENE(scene), lists->feedback_ids, lists->feedback_ids_length);
+SizhbantoDescriptionNumbers describe(const SizhbantoScene *scene, SizhbantoDescriptionLists *lists) {
+    const SizhbantoDescriptionLists before = *lists;
+    SizhbantoDescriptionNumbers got = sizhbanto_describe_scene(scene, lists);
+    CHECK(memcmp(&before, lists, sizeof before) == 0);
+    return got;
 }
 
-SizhbantoCheckedNumbers checked(const Scene *scene, size_t first, const size_t *room, size_t rooms) {
-    return sizhbanto_check_scene(SCENE(scene), first, room, rooms);
+SizhbantoSceneNumbers assess(const SizhbantoScene *scene, SizhbantoAssessmentLists *lists) {
+    const SizhbantoAssessmentLists before = *lists;
+    SizhbantoSceneNumbers got = sizhbanto_assess_scene(scene, lists);
+    CHECK(memcmp(&before, lists, sizeof before) == 0);
+    return got;
 }
 
 void lever_repeater_lamp(Scene *scene) {

@@ -1,3 +1,5 @@
+#include <string.h>
+
 #include "trace.h"
 
 void event(Trace *trace, uint64_t tick, uint64_t component, uint8_t powered) {
@@ -25,24 +27,40 @@ void high_pulse(Trace *trace, uint64_t component) {
     event(trace, 14, component, 0);
 }
 
-void lend_findings(Findings *findings, size_t entries) {
+void lend_findings(SizhbantoFindings *findings, size_t entries) {
     take_back();
-#define LEND_FINDINGS(type, name)       \
+#define LEND_FINDINGS(name)            \
     findings->name##_length = entries; \
-    findings->name = lend(entries, sizeof(type));
+    findings->name = lend(entries, sizeof *findings->name);
     FINDING_LISTS(LEND_FINDINGS)
 }
 
-#define TRACE(t)                                                                                              \
-    (t)->unit, (t)->ticks, (t)->n[0], (t)->components, (t)->n[1], (t)->powered, (t)->n[2],                    \
-        (t)->contract_components, (t)->c[0], (t)->intents, (t)->c[1], (t)->wanted, (t)->c[2], (t)->polarities, \
-        (t)->c[3], (t)->units, (t)->c[4], (t)->smallest, (t)->c[5], (t)->largest, (t)->c[6]
-#define LENT(type, name) , findings->name, findings->name##_length
-
-SizhbantoAssessedTrace assess_trace(const Trace *trace, const Findings *findings) {
-    return sizhbanto_assess_transients(TRACE(trace) FINDING_LISTS(LENT));
+SizhbantoTrace lent_trace(const Trace *trace) {
+    return (SizhbantoTrace){
+        .unit = trace->unit,
+        .events = {.ticks = trace->ticks, .ticks_length = trace->n[0],
+                   .components = trace->components, .components_length = trace->n[1],
+                   .powered = trace->powered, .powered_length = trace->n[2]},
+        .contracts = {.components = trace->contract_components, .components_length = trace->c[0],
+                      .intents = trace->intents, .intents_length = trace->c[1],
+                      .powered = trace->wanted, .powered_length = trace->c[2],
+                      .polarities = trace->polarities, .polarities_length = trace->c[3],
+                      .units = trace->units, .units_length = trace->c[4],
+                      .smallest = trace->smallest, .smallest_length = trace->c[5],
+                      .largest = trace->largest, .largest_length = trace->c[6]},
+    };
 }
 
-SizhbantoRecordedTrace record(SizhbantoTransientRecord held, const Trace *trace, const Findings *findings) {
-    return sizhbanto_record_trace(held, TRACE(trace) FINDING_LISTS(LENT));
+SizhbantoAssessedTrace assess_trace(const SizhbantoTrace *trace, SizhbantoFindings *findings) {
+    const SizhbantoFindings before = *findings;
+    SizhbantoAssessedTrace got = sizhbanto_assess_transients(trace, findings);
+    CHECK(memcmp(&before, findings, sizeof before) == 0);
+    return got;
+}
+
+SizhbantoRecordedTrace record(SizhbantoTransientRecord held, const SizhbantoTrace *trace, SizhbantoFindings *findings) {
+    const SizhbantoFindings before = *findings;
+    SizhbantoRecordedTrace got = sizhbanto_record_trace(held, trace, findings);
+    CHECK(memcmp(&before, findings, sizeof before) == 0);
+    return got;
 }

@@ -1,8 +1,8 @@
-// A trace in its ten lists, list 9, and the calls.
+// A trace in its ten lists, list 9, and the calls; each must leave the structs of lists as they were.
 #ifndef TRACE_H
 #define TRACE_H
 
-#include "../sizhbanto.h"
+#include "sizhbanto.h"
 #include "check.h"
 
 enum { EVENT_ROOM = 4200, CONTRACT_ROOM = 600 };
@@ -23,31 +23,25 @@ void contract(Trace *trace, uint64_t component, uint8_t intent);
 void high_pulse(Trace *trace, uint64_t component);
 
 // The number lists of list 9.
-#define FINDING_LISTS(EACH)             \
-    EACH(uint64_t, finding_components)  \
-    EACH(uint8_t, finding_polarities)   \
-    EACH(uint8_t, finding_units)        \
-    EACH(uint64_t, finding_start_ticks) \
-    EACH(uint64_t, finding_end_ticks)   \
-    EACH(uint64_t, finding_widths)      \
-    EACH(uint8_t, finding_steady)       \
-    EACH(size_t, finding_baselines)     \
-    EACH(size_t, finding_starts)        \
-    EACH(size_t, finding_ends)          \
-    EACH(uint8_t, finding_verdicts)     \
-    EACH(uint8_t, finding_rationales)
-
-#define DECLARE_FINDINGS(type, name) \
-    type *name;                      \
-    size_t name##_length;
-typedef struct Findings {
-    FINDING_LISTS(DECLARE_FINDINGS)
-} Findings;
+#define FINDING_LISTS(EACH) \
+    EACH(components)        \
+    EACH(polarities)        \
+    EACH(units)             \
+    EACH(start_ticks)       \
+    EACH(end_ticks)         \
+    EACH(widths)            \
+    EACH(steady)            \
+    EACH(baselines)         \
+    EACH(starts)            \
+    EACH(ends)              \
+    EACH(verdicts)          \
+    EACH(rationales)
 
 // Takes all lists back and lends list 9 with so many entries.
-void lend_findings(Findings *findings, size_t entries);
+void lend_findings(SizhbantoFindings *findings, size_t entries);
 
-SizhbantoAssessedTrace assess_trace(const Trace *trace, const Findings *findings);
-SizhbantoRecordedTrace record(SizhbantoTransientRecord held, const Trace *trace, const Findings *findings);
+SizhbantoTrace lent_trace(const Trace *trace);
+SizhbantoAssessedTrace assess_trace(const SizhbantoTrace *trace, SizhbantoFindings *findings);
+SizhbantoRecordedTrace record(SizhbantoTransientRecord held, const SizhbantoTrace *trace, SizhbantoFindings *findings);
 
 #endif
