@@ -1,23 +1,69 @@
 // Reading an input into a list of bytes.
 #![tactic(auto)]
 
-ghost use Rattle.std.specs.Io.KnownBytes.{Consumes, IsAtEnd};
+ghost use Rattle.std.specs.Io.KnownBytes.{ReadConsumes, IsAtEnd};
 ghost use Rattle.std.specs.Io.{ReadsAtMost};
-ghost use Rattle.std.specs.Prelude.{◌<◌, length, take, IfOk};
+ghost use Rattle.std.specs.Prelude.{◌≡◌, ◌<◌, ℕ, Result, length, drop, IfOk, IfErr, MatchResult};
+ghost use Rattle.std.specs.declared.io.Error.{Error};
+ghost use Rattle.input.specs.Reading.{GaveNone, GaveError, Filled, FilledSome};
 
 use std::io;
 use std::io::Read;
 
-// Reads until `space` is full or the input ends; answers how many bytes stand at its front. A read gives as many bytes as
-// have come, so that no place is counted one by one, and how far it went is known after it: so the loop is no `for`.
-pub fn read_full<R: Read>(input: &mut R, space: &mut [u8]) -> io::Result<usize>
+// Room for what one read gives.
+const CHUNK: usize = 8192;
+
+// What a clause can say of an input. `Read` has the bytes that are left, where they are known, and says nothing of errors: so
+// what a read gives is named here. A function that is generic over a source can answer an error only if a read gave it.
+pub trait Source: Read {
+    // in this state a read may give this many bytes, or this error, and leave the source in that state
+    ghost gives: { Self → Result ℕ Error → Self → Type 0 };
+
+    // One read.
+    fn read_some(&mut self, space: &mut [u8]) -> io::Result<usize>
+        ensures bound { ReadsAtMost result space.new }
+        ensures bytes { ReadConsumes (Self.remaining self.old) (Self.remaining self.new) result space.new }
+        ensures gave { gives self.old result self.new };
+}
+
+// Each reader is a source, of which it is not said what it gives.
+impl<R: Read> Source for R {
+    ghost gives = { λ _ _ _. Unit {0} };
+
+    fn read_some(&mut self, space: &mut [u8]) -> io::Result<usize> {
+        self.read(space)
+    }
+}
+
+// One read to the front of `space`; what stands behind the bytes that it gives stays. A read may leave anything there, so it
+// is given room of its own.
+fn read_front<S: Source>(input: &mut S, space: &mut [u8]) -> io::Result<usize>
     ensures bound { ReadsAtMost result space.new }
-    ensures bytes { IfOk result (λ n. Consumes (R.remaining input.old) (R.remaining input.new) (take n space.new)) }
-    ensures whole { IfOk result (λ n. n < length space.new → IsAtEnd (R.remaining input.new)) }
+    ensures bytes { ReadConsumes (S.remaining input.old) (S.remaining input.new) result space.new }
+    ensures gave { S.gives input.old result input.new }
+    ensures behind { MatchResult result (λ n. drop n space.new ≡ drop n space.old) (λ _. space.new ≡ space.old) }
+{
+    let mut chunk = [0; CHUNK];
+    let size = space.len().min(CHUNK);
+    let room = &mut chunk[..size];
+    let n = input.read_some(room)?;
+    space[..n].copy_from_slice(&room[..n]);
+    Ok(n)
+}
+
+// Reads until `space` is full or the input ends; answers how many bytes stand at its front, and leaves what stands behind
+// them. An error is that of a read: what the reads before it gave stands at the front then, how much is not answered. A read
+// gives as many bytes as have come, so that no place is counted one by one, and how far it went is known after it: so the loop
+// is no `for`.
+pub fn read_full<S: Source>(input: &mut S, space: &mut [u8]) -> io::Result<usize>
+    ensures filled { IfOk result (Filled (S.remaining input.old) (S.remaining input.new) space.old space.new) }
+    ensures whole { IfOk result (λ n. n < length space.new → IsAtEnd (S.remaining input.new)) }
+    ensures ended { IfOk result (λ n. n < length space.new → GaveNone S.gives input.old input.new) }
+    ensures failed { IfErr result (λ e. GaveError S.gives input.old e input.new × FilledSome (S.remaining input.old) (S.remaining input.new) space.old space.new) }
 {
     let mut done = 0;
     while done < space.len() {
-        let n = input.read(&mut space[done..])?;
+        let n = read_front(input, &mut space[done..])?;
         if n == 0 {
             break;
         }

@@ -1,5 +1,5 @@
 // A text read line by line, a field on each line: the field's name and its value.
-ghost use Rattle.std.specs.Prelude.{◌≡◌, ◌+◌, ◌^◌, ◌<◌, ◌≤◌, List, ℕ, Option, OnOk, MatchResult, SomeIff, eqb, length, true, false, position};
+ghost use Rattle.std.specs.Prelude.{◌≡◌, ◌+◌, ◌^◌, ◌<◌, ◌≤◌, List, ℕ, Option, OnOk, OnErr, MatchResult, SomeIff, eqb, length, true, false, position};
 ghost use Rattle.rules.specs.Lists.{not_empty};
 ghost use Rattle.rules.specs.Text.{line_feed, place, field};
 ghost use Rattle.reader.specs.Lines.{NamedLine};
@@ -90,7 +90,18 @@ impl<'a> Lines<'a> {
         }
     }
 
-    // Reads the next line, a field with this name whose value has a form.
+    // The same place once more: for reading all of some lines or none. No `Copy`, which a struct with a model and a lifetime
+    // can't have.
+    pub fn copied(&self) -> Self
+        ensures { result ≡ self.now }
+    {
+        Lines {
+            line: self.line,
+            rest: self.rest,
+        }
+    }
+
+    // Reads the next line, a field with this name whose value has a form. A line that is refused stays the next one.
     #[tactic(auto, using(crate::proofs::FieldSteps::field_missing, crate::proofs::FieldSteps::field_none, crate::proofs::FieldSteps::field_some))]
     pub fn field<T: Drop, F: Fn(&[u8]) -> Option<T>>(
         &mut self,
@@ -103,6 +114,7 @@ impl<'a> Lines<'a> {
         ensures reads { reading result self.new ≡ field name.now value self.old }
         ensures forward { OnOk result (length name.now + length self.new.rest + 1 ≤ length self.old.rest) }
         ensures counted { MatchResult result (λ _. self.new.line ≡ self.old.line + 1) (λ e. e.line ≡ self.old.line) }
+        ensures kept { OnErr result (self.new ≡ self.old) }
     {
         let broken = BrokenLine { line: self.line };
         let (value, rest) = named_line(self.rest, name).ok_or(broken)?;

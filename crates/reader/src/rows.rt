@@ -1,5 +1,5 @@
 // The rows of a scene's text: a line for each field, in this order.
-ghost use Rattle.std.specs.Prelude.{◌≡◌, ◌+◌, ◌≤◌, OnOk, IfErr, length};
+ghost use Rattle.std.specs.Prelude.{◌≡◌, ◌+◌, ◌≤◌, OnOk, OnErr, IfErr, length};
 ghost use Rattle.rules.specs.Text.{component, connection};
 ghost use Rattle.reader.specs.Readings.{reading_as, component_of, connection_of};
 
@@ -26,20 +26,23 @@ pub struct ConnectionRow {
     pub transfer: u8,
 }
 
-// Reads a component's seven lines.
+// Reads a component's seven lines, or none of them.
 #[tactic(auto, unfolding(rules::specs::Text::component, rules::specs::Text::and_then))]
 pub fn read_component(lines: &mut Lines<'_>) -> Result<ComponentRow, BrokenLine>
     ensures reads { reading_as component_of result lines.new ≡ component lines.old }
     ensures forward { OnOk result (34 + length lines.new.rest ≤ length lines.old.rest) }
     ensures within { IfErr result (λ e. (lines.old.line ≤ e.line) × (e.line ≤ 6 + lines.old.line)) }
+    ensures kept { OnErr result (lines.new ≡ lines.old) }
 {
-    let id = lines.field(b"id=", number64)?;
-    let kind = lines.field(b"kind=", byte)?;
-    let delay = lines.field(b"delay=", delay_word)?;
-    let locked = lines.field(b"locked=", flag)?;
-    let x = lines.field(b"x=", signed_number)?;
-    let y = lines.field(b"y=", signed_number)?;
-    let z = lines.field(b"z=", signed_number)?;
+    let mut next = lines.copied();
+    let id = next.field(b"id=", number64)?;
+    let kind = next.field(b"kind=", byte)?;
+    let delay = next.field(b"delay=", delay_word)?;
+    let locked = next.field(b"locked=", flag)?;
+    let x = next.field(b"x=", signed_number)?;
+    let y = next.field(b"y=", signed_number)?;
+    let z = next.field(b"z=", signed_number)?;
+    *lines = next;
     Ok(ComponentRow {
         id,
         kind,
@@ -51,16 +54,19 @@ pub fn read_component(lines: &mut Lines<'_>) -> Result<ComponentRow, BrokenLine>
     })
 }
 
-// Reads a connection's three lines.
+// Reads a connection's three lines, or none of them.
 #[tactic(auto, unfolding(rules::specs::Text::connection, rules::specs::Text::and_then))]
 pub fn read_connection(lines: &mut Lines<'_>) -> Result<ConnectionRow, BrokenLine>
     ensures reads { reading_as connection_of result lines.new ≡ connection lines.old }
     ensures forward { OnOk result (24 + length lines.new.rest ≤ length lines.old.rest) }
     ensures within { IfErr result (λ e. (lines.old.line ≤ e.line) × (e.line ≤ 2 + lines.old.line)) }
+    ensures kept { OnErr result (lines.new ≡ lines.old) }
 {
-    let source = lines.field(b"source=", number64)?;
-    let sink = lines.field(b"sink=", number64)?;
-    let transfer = lines.field(b"transfer=", byte)?;
+    let mut next = lines.copied();
+    let source = next.field(b"source=", number64)?;
+    let sink = next.field(b"sink=", number64)?;
+    let transfer = next.field(b"transfer=", byte)?;
+    *lines = next;
     Ok(ConnectionRow {
         source,
         sink,

@@ -1,0 +1,2 @@
+-- What reading gave:
+pub mod Reading

@@ -1,0 +1,2 @@
+-- What writing took:
+pub mod Writing

@@ -1,0 +1,2 @@
+-- What a run of the program did:
+pub mod Run
