@@ -25,6 +25,17 @@ pub struct TransientCounts {
     pub contracts_applied: u64,
 }
 
+impl From<TransientAssessment> for TransientCounts {
+    ghost from_gives = { λ assessment counts. (counts.findings ≡ assessment.findings) × (counts.contracts_applied ≡ assessment.contracts_applied) };
+
+    fn from(assessment: TransientAssessment) -> TransientCounts {
+        TransientCounts {
+            findings: assessment.findings,
+            contracts_applied: assessment.contracts_applied,
+        }
+    }
+}
+
 // What a recording answers, with the record after the call.
 #[derive(Clone, Copy, PartialEq, Eq, Debug)]
 pub struct Recorded {

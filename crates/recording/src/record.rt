@@ -61,10 +61,7 @@ fn recorded_from(
             },
         },
         Ok(assessment) => Recorded {
-            answer: Ok(TransientCounts {
-                findings: assessment.findings,
-                contracts_applied: assessment.contracts_applied,
-            }),
+            answer: Ok(TransientCounts::from(assessment)),
             held: grown(traces, held, tallies, assessment),
         },
     }

@@ -14,4 +14,5 @@ pub grown-requires-clause-tallies : goal.grown-requires-clause-tallies
 grown-requires-clause-tallies c = sums-fit (record_by c.args.traces c.args.held c.args.tallies) (trace_lent c.args.trace.now) (findings_lent c.args.findings.now) c.in-Ok.ensures.assessed
 
 pub returns-in-Ok-clause-recorded : goal.returns-in-Ok-clause-recorded
-returns-in-Ok-clause-recorded c = trace-recorded (record_by c.args.traces c.args.held c.args.tallies) (trace_lent c.args.trace.now) (findings_lent c.args.findings.now) c.in-Ok.ensures.assessed c.grown.ensures
+returns-in-Ok-clause-recorded c =
+    rw (c.from.ensures.0, c.from.ensures.1) (trace-recorded (record_by c.args.traces c.args.held c.args.tallies) (trace_lent c.args.trace.now) (findings_lent c.args.findings.now) c.in-Ok.ensures.assessed c.grown.ensures)
