@@ -6,8 +6,12 @@ use Rattle.rules.specs.declared.answers.Refusal.{Refusal}
 use Rattle.recording.specs.declared.held.TransientRecord.{TransientRecord}
 use Rattle.recording.specs.declared.held.TransientCounts.{TransientCounts}
 
+-- a record by its fields
+abbrev pub record_by : (traces findings : ℕ) → (tallies : List ℕ) → Rules.TransientRecord
+record_by traces findings tallies = record { traces = traces; findings = findings; tallies = tallies }
+
 abbrev pub record_of : TransientRecord → Rules.TransientRecord
-record_of r = record { traces = r.traces; findings = r.findings; tallies = r.tallies }
+record_of r = record_by r.traces r.findings r.tallies
 
 -- refusal, place, findings of this trace, contracts given
 abbrev pub recorded_numbers : Result TransientCounts Refusal → List ℕ

@@ -3,7 +3,7 @@ ghost use Rattle.std.specs.Prelude.{◌≡◌, suc, ◌+◌, ◌^◌, ◌<◌, n
 ghost use Rattle.rules.specs.Lists.{sum};
 ghost use Rattle.rules.specs.Traces.{trace_limits};
 ghost use Rattle.rules.specs.Recording.{record_false, add_tallies};
-ghost use Rattle.recording.specs.Held.{record_of, Addable};
+ghost use Rattle.recording.specs.Held.{record_by, record_of, Addable};
 
 use rules::answers::Refusal;
 use rules::limits::MAX_FINDINGS_EACH;
@@ -23,6 +23,17 @@ pub struct TransientRecord {
 pub struct TransientCounts {
     pub findings: u64,
     pub contracts_applied: u64,
+}
+
+impl From<TransientAssessment> for TransientCounts {
+    ghost from_gives = { λ assessment counts. (counts.findings ≡ assessment.findings) × (counts.contracts_applied ≡ assessment.contracts_applied) };
+
+    fn from(assessment: TransientAssessment) -> TransientCounts {
+        TransientCounts {
+            findings: assessment.findings,
+            contracts_applied: assessment.contracts_applied,
+        }
+    }
 }
 
 // What a recording answers, with the record after the call.
@@ -50,27 +61,30 @@ fn add_tallies(held: [u64; 5], added: [u64; 5]) -> [u64; 5]
     std::array::from_fn(|k| held[k] + added[k])
 }
 
-impl TransientRecord {
-    // 15: the tallies don't sum to the findings held, or these are more than the traces held can have.
-    #[tactic(auto, unfolding(rules::specs::Recording::record_false))]
-    pub(crate) fn is_false(self) -> bool
-        ensures { result ≡ record_false trace_limits (record_of self) }
-    {
-        !sum_is(self.tallies, self.findings)
-            || u128::from(MAX_FINDINGS_EACH) * u128::from(self.traces) < u128::from(self.findings)
-    }
+// 15: the tallies don't sum to the findings held, or these are more than the traces held can have.
+#[tactic(auto, unfolding(rules::specs::Recording::record_false))]
+pub(crate) fn record_false(traces: u64, findings: u64, tallies: [u64; 5]) -> bool
+    ensures { result ≡ record_false trace_limits (record_by traces findings tallies) }
+{
+    !sum_is(tallies, findings)
+        || u128::from(MAX_FINDINGS_EACH) * u128::from(traces) < u128::from(findings)
+}
 
-    // The record with one trace more.
-    pub(crate) fn grown(self, assessment: TransientAssessment) -> Self
-        requires traces { self.traces < 64 }
-        requires findings { self.findings + assessment.findings < 2 ^ 64 }
-        requires tallies { Addable self.tallies assessment.tallies }
-        ensures { record_of result ≡ record { traces = suc self.traces; findings = self.findings + assessment.findings; tallies = add_tallies self.tallies assessment.tallies } }
-    {
-        TransientRecord {
-            traces: self.traces + 1,
-            findings: self.findings + assessment.findings,
-            tallies: add_tallies(self.tallies, assessment.tallies),
-        }
+// The record with one trace more.
+pub(crate) fn grown(
+    traces: u64,
+    findings: u64,
+    tallies: [u64; 5],
+    assessment: TransientAssessment,
+) -> TransientRecord
+    requires traces { traces < 64 }
+    requires findings { findings + assessment.findings < 2 ^ 64 }
+    requires tallies { Addable tallies assessment.tallies }
+    ensures { record_of result ≡ record_by (suc traces) (findings + assessment.findings) (add_tallies tallies assessment.tallies) }
+{
+    TransientRecord {
+        traces: traces + 1,
+        findings: findings + assessment.findings,
+        tallies: add_tallies(tallies, assessment.tallies),
     }
 }

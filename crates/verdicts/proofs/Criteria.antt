@@ -17,19 +17,24 @@ use Rattle.rules.specs.declared.transient.TraceTimeUnit.{TraceTimeUnit}
 use Rattle.rules.specs.declared.transient.TraceTimeUnit.TheVariants.{RedstoneTick, GameTick}
 use Rattle.rules.specs.declared.transient.SignalIntent.{SignalIntent}
 use Rattle.rules.specs.declared.transient.SignalIntent.TheVariants as Intent
+use Rattle.rules.specs.declared.transient.TransientVerdict.{TransientVerdict}
 use Rattle.rules.specs.declared.transient.TransientVerdict.TheVariants as Verdict
+use Rattle.rules.specs.declared.transient.Rationale.{Rationale}
 use Rattle.rules.specs.declared.transient.Rationale.TheVariants as Why
 use Rattle.verdicts.specs.declared.criterion.Criterion.{Criterion}
-use Rattle.verdicts.specs.Criteria.{fits, for_pulse, polarity_in, JudgesAlike, Judges, JudgedBy}
+use Rattle.verdicts.specs.Criteria.{fits, for_pulse, polarity_in, alike, registered, criterion_of, Judges, JudgedBy}
 
-module _ {c : Criterion} {unit : TraceTimeUnit} where
-  pub none-judged : JudgesAlike c Verdict.HazardCandidate Why.NoIntent → Judges c None unit
-  unfolding classify
-  none-judged a = record { verdict_judged = λ p e h. a.verdict_alike p; rationale_judged = λ p e h. a.rationale_alike p }
+-- all pulses are judged alike
+module _ (verdict : TransientVerdict) (rationale : Rationale) where
+  either : (n : ℕ) (b : Bool) → slice_index (n ∷ n ∷ []) (cond b 1 0) ≡ n
+  either n true = refl
+  either n false = refl
 
-  pub steady-judged : JudgesAlike c Verdict.TransientDeviation Why.SteadyStateOnly → Judges c (Some Intent.SteadyStateOnly) unit
-  unfolding classify
-  steady-judged a = record { verdict_judged = λ p e h. a.verdict_alike p; rationale_judged = λ p e h. a.rationale_alike p }
+  alike-verdict : (p : Pulse) → for_pulse (alike verdict rationale) p (alike verdict rationale).verdicts ≡ verdict_code verdict
+  alike-verdict p = either (verdict_code verdict) (fits (alike verdict rationale) (polarity_code p.polarity) p.width)
+
+  alike-rationale : (p : Pulse) → for_pulse (alike verdict rationale) p (alike verdict rationale).rationales ≡ rationale_code rationale
+  alike-rationale p = either (rationale_code rationale) (fits (alike verdict rationale) (polarity_code p.polarity) p.width)
 
 -- the number of the polarity in another unit is that of none
 fit : (a b : PulsePolarity) (u v : TraceTimeUnit) (r : Bool) → (eqb (polarity_code b) (polarity_in v a u) && r) ≡ (same_polarity a b && (same_unit u v && r))
@@ -59,26 +64,24 @@ module _ (g : Judgement → ℕ) (fitting other : Judgement) where
   taken : {a b : Bool} → a ≡ b → slice_index (g other ∷ g fitting ∷ []) (cond a 1 0) ≡ g (cond b fitting other)
   taken {a} {b} e = ap (λ x. slice_index (g other ∷ g fitting ∷ []) (cond x 1 0)) e ∙ by_test b
 
-module _ (polarity : PulsePolarity) (u unit : TraceTimeUnit) (lo hi : ℕ) {n v w r s : ℕ} (e : n ≡ polarity_in unit polarity u) (v3 : v ≡ 3) where
-  pub intentional-judged : w ≡ 4 → r ≡ 7 → s ≡ 6
-      → Judges (record { polarity = n; smallest = lo; largest = hi; verdicts = v ∷ w ∷ []; rationales = r ∷ s ∷ [] }) (Some (Intent.IntentionalPulse polarity u lo hi)) unit
+module _ (polarity : PulsePolarity) (u unit : TraceTimeUnit) (lo hi : ℕ) where
+  intentional-judged : Judges (registered (Intent.IntentionalPulse polarity u lo hi) unit) (Some (Intent.IntentionalPulse polarity u lo hi)) unit
   unfolding classify
-  intentional-judged w4 r7 s6 = rw (e, v3, w4, r7, s6) (record {
+  intentional-judged = record {
     verdict_judged = λ p t h. taken (λ j. verdict_code j.verdict) _ _ (here p t);
     rationale_judged = λ p t h. taken (λ j. rationale_code j.rationale) _ _ (here p t);
-  })
+  }
     where
       here : (p : Pulse) → p.unit ≡ unit
           → (eqb (polarity_code p.polarity) (polarity_in unit polarity u) && (leb lo p.width && leb p.width hi)) ≡ (same_polarity polarity p.polarity && (same_unit u p.unit && (leb lo p.width && leb p.width hi)))
       here p t = ap (λ x. eqb (polarity_code p.polarity) (polarity_in x polarity u) && (leb lo p.width && leb p.width hi)) (sym t) ∙ fit polarity p.polarity u p.unit (leb lo p.width && leb p.width hi)
 
-  pub maximum-judged : w ≡ 0 → r ≡ 9 → s ≡ 8
-      → Judges (record { polarity = n; smallest = 0; largest = hi; verdicts = v ∷ w ∷ []; rationales = r ∷ s ∷ [] }) (Some (Intent.MaximumPulseWidth polarity u hi)) unit
+  maximum-judged : Judges (registered (Intent.MaximumPulseWidth polarity u hi) unit) (Some (Intent.MaximumPulseWidth polarity u hi)) unit
   unfolding classify
-  maximum-judged w0 r9 s8 = rw (e, v3, w0, r9, s8) (record {
+  maximum-judged = record {
     verdict_judged = λ p t h. taken (λ j. verdict_code j.verdict) _ _ (here p t);
     rationale_judged = λ p t h. taken (λ j. rationale_code j.rationale) _ _ (here p t);
-  })
+  }
     where
       here : (p : Pulse) → p.unit ≡ unit
           → (eqb (polarity_code p.polarity) (polarity_in unit polarity u) && (leb 0 p.width && leb p.width hi)) ≡ (same_polarity polarity p.polarity && (same_unit u p.unit && leb p.width hi))
@@ -86,14 +89,13 @@ module _ (polarity : PulsePolarity) (u unit : TraceTimeUnit) (lo hi : ℕ) {n v 
           ap (λ r. eqb (polarity_code p.polarity) (polarity_in unit polarity u) && (r && leb p.width hi)) (leb-zero p.width)
           ∙ ap (λ x. eqb (polarity_code p.polarity) (polarity_in x polarity u) && leb p.width hi) (sym t) ∙ fit polarity p.polarity u p.unit (leb p.width hi)
 
-module _ (wanted : Bool) (unit : TraceTimeUnit) {n v r s : ℕ} where
-  pub stable-judged : n ≡ 1 → v ≡ 3 → r ≡ rationale_code (Why.Stable wanted High) → s ≡ rationale_code (Why.Stable wanted Low)
-      → Judges (record { polarity = n; smallest = 0; largest = 18446744073709551615; verdicts = v ∷ v ∷ []; rationales = r ∷ s ∷ [] }) (Some (Intent.Stable wanted)) unit
+module _ (wanted : Bool) (unit : TraceTimeUnit) where
+  stable-judged : Judges (registered (Intent.Stable wanted) unit) (Some (Intent.Stable wanted)) unit
   unfolding classify
-  stable-judged n1 v3 r-high s-low = rw (n1, v3, r-high, s-low) (record {
+  stable-judged = record {
     verdict_judged = λ p t h. both (eqb (polarity_code p.polarity) 1 && (leb 0 p.width && leb p.width 18446744073709551615));
     rationale_judged = λ p t h. why p.polarity (leb 0 p.width && leb p.width 18446744073709551615) (rw (leb-zero p.width) (le-leb p.width 18446744073709551615 (omega (arith, h))));
-  })
+  }
     where
       both : (b : Bool) → slice_index (3 ∷ 3 ∷ []) (cond b 1 0) ≡ 3
       both true = refl
@@ -103,6 +105,21 @@ module _ (wanted : Bool) (unit : TraceTimeUnit) {n v r s : ℕ} where
           → slice_index (rationale_code (Why.Stable wanted High) ∷ rationale_code (Why.Stable wanted Low) ∷ []) (cond (eqb (polarity_code polarity) 1 && r) 1 0) ≡ rationale_code (Why.Stable wanted polarity)
       why High r h = refl
       why Low r h = rw h refl
+
+-- the criterion of an intent judges as the intent does
+pub criterion-judges : (intent : Option SignalIntent) (unit : TraceTimeUnit) → Judges (criterion_of intent unit) intent unit
+unfolding classify
+criterion-judges None unit = record {
+  verdict_judged = λ p t h. alike-verdict Verdict.HazardCandidate Why.NoIntent p;
+  rationale_judged = λ p t h. alike-rationale Verdict.HazardCandidate Why.NoIntent p;
+}
+criterion-judges (Some Intent.SteadyStateOnly) unit = record {
+  verdict_judged = λ p t h. alike-verdict Verdict.TransientDeviation Why.SteadyStateOnly p;
+  rationale_judged = λ p t h. alike-rationale Verdict.TransientDeviation Why.SteadyStateOnly p;
+}
+criterion-judges (Some (Intent.Stable wanted)) unit = stable-judged wanted unit
+criterion-judges (Some (Intent.IntentionalPulse polarity u lo hi)) unit = intentional-judged polarity u unit lo hi
+criterion-judges (Some (Intent.MaximumPulseWidth polarity u hi)) unit = maximum-judged polarity u unit 0 hi
 
 -- so it is at the numbers of a pulse
 module _ {c : Criterion} {intent : Option SignalIntent} {unit : TraceTimeUnit} (judges : Judges c intent unit) {polarity width : ℕ} (narrow : width < 2 ^ 64) where

@@ -1,7 +1,7 @@
 // What is judged of the pulses of one component.
-ghost use Rattle.std.specs.Prelude.{◌≡◌, cond, Some, slice_index};
+ghost use Rattle.std.specs.Prelude.{◌≡◌, cond, slice_index};
 ghost use Rattle.rules.specs.Codes.{polarity_code, verdict_code, rationale_code};
-ghost use Rattle.verdicts.specs.Criteria.{fits, polarity_in, Judges, JudgesAlike};
+ghost use Rattle.verdicts.specs.Criteria.{fits, polarity_in, alike, registered, criterion_of, Judges};
 
 use rules::transient::{PulsePolarity, Rationale, SignalIntent, TraceTimeUnit, TransientVerdict};
 
@@ -32,7 +32,7 @@ fn polarity_in(unit: TraceTimeUnit, polarity: PulsePolarity, time_unit: TraceTim
 impl Criterion {
     // All pulses are judged alike.
     fn alike(verdict: TransientVerdict, rationale: Rationale) -> Criterion
-        ensures { JudgesAlike result verdict rationale }
+        ensures { result ≡ alike verdict rationale }
     {
         Criterion {
             polarity: 0,
@@ -45,7 +45,7 @@ impl Criterion {
 
     // The judgement by an intent.
     fn registered(intent: SignalIntent, unit: TraceTimeUnit) -> Criterion
-        ensures { Judges result (Some intent) unit }
+        ensures { result ≡ registered intent unit }
     {
         match intent {
             SignalIntent::SteadyStateOnly => Criterion::alike(
@@ -108,7 +108,8 @@ impl Criterion {
 
     // The judgement by the intent that is registered, if one is, on pulses of a trace in this unit.
     pub fn of(intent: Option<SignalIntent>, unit: TraceTimeUnit) -> Criterion
-        ensures { Judges result intent unit }
+        ensures criterion { result ≡ criterion_of intent unit }
+        ensures judges { Judges result intent unit }
     {
         match intent {
             None => Criterion::alike(TransientVerdict::HazardCandidate, Rationale::NoIntent),
