@@ -28,10 +28,17 @@ pub fn table(rng: &mut Rng) -> Result<(), String> {
         }
     }
     let sizes = scenes.map(|case| size(&case.lists));
-    println!("both calls ran in a stack of 1 MiB on the longest chains: {}", sizes.join("; "));
+    println!(
+        "both calls ran in a stack of 1 MiB on the longest chains: {}",
+        sizes.join("; ")
+    );
     Ok(())
 }
 
 fn size(lists: &SceneLists) -> String {
-    format!("{} components, {} connections", lists.ids.len(), lists.sources.len())
+    format!(
+        "{} components, {} connections",
+        lists.ids.len(),
+        lists.sources.len()
+    )
 }
