@@ -8,6 +8,7 @@ pub enum Item {
     Enum(Enum),
     Struct(Struct),
     Function(Function),
+    Layout(Layout),
 }
 
 /// `about` is the comment right before the item, a line each.
@@ -20,43 +21,53 @@ pub struct Enum {
 pub struct Struct {
     pub about: Vec<String>,
     pub name: String,
-    pub fields: Vec<(String, String)>,
+    pub fields: Vec<Part>,
 }
 
 pub struct Function {
     pub about: Vec<String>,
     pub result: String,
     pub name: String,
-    pub parameters: Vec<Parameter>,
+    pub parameters: Vec<Part>,
+}
+
+/// A struct's size, or where in it a field begins, in bytes.
+pub struct Layout {
+    pub name: String,
+    pub field: Option<String>,
+    pub bytes: String,
 }
 
 #[derive(Clone, Copy, Eq, PartialEq)]
 pub enum Access {
-    Number,
     Read,
     Written,
 }
 
-pub struct Parameter {
+#[derive(Clone, Copy, Eq, PartialEq)]
+pub enum Form {
+    Value,
+    /// By a pointer and a length.
+    List(Access),
+    /// By a pointer to a struct of lists.
+    Lent(Access),
+}
+
+/// A field of a struct or a parameter of a function.
+pub struct Part {
     pub name: String,
     pub kind: String,
-    pub access: Access,
+    pub form: Form,
     /// What the comment above a list says of it and of those that follow.
     pub group: Option<String>,
 }
 
 type Numbered<'a> = Enumerate<Lines<'a>>;
 
-const FRAME: [&str; 8] = [
-    "",
-    "#ifndef SIZHBANTO_H",
-    "#define SIZHBANTO_H",
-    "#include",
-    "#ifdef __cplusplus",
-    "extern \"C\" {",
-    "}",
-    "#endif",
-];
+/// Lines that are for the compiler of C alone.
+fn is_frame(line: &str) -> bool {
+    ["", "extern \"C\" {", "}"].contains(&line) || line.starts_with('#') && constant(line).is_none()
+}
 
 pub fn read(text: &str) -> Result<Vec<Item>, String> {
     let mut lines = text.lines().enumerate();
@@ -67,7 +78,7 @@ pub fn read(text: &str) -> Result<Vec<Item>, String> {
             continue;
         }
         let above = std::mem::take(&mut about);
-        if !FRAME.contains(&line.split(" <").next().unwrap_or(line)) {
+        if !is_frame(line) {
             let item = item(line, above, &mut lines);
             items.push(item.ok_or_else(|| format!("line {} begins nothing in its form", at + 1))?);
         }
@@ -76,12 +87,14 @@ pub fn read(text: &str) -> Result<Vec<Item>, String> {
 }
 
 fn item(line: &str, about: Vec<String>, lines: &mut Numbered) -> Option<Item> {
-    if let Some(constant) = line.strip_prefix("#define SIZHBANTO_") {
-        let (name, number) = constant.split_once(' ')?;
+    if let Some((name, number)) = constant(line) {
         return Some(Item::Constant(name.to_owned(), number.to_owned()));
     }
+    if let Some(words) = between(line, "SIZHBANTO_", ")") {
+        return layout(words).map(Item::Layout);
+    }
     if let Some(name) = between(line, "enum Sizhbanto", " {") {
-        let values = rows(lines, "};", |line| value(line, name))?;
+        let values = rows(lines, "};", |line| enum_value(line, name))?;
         let name = name.to_owned();
         return Some(Item::Enum(Enum {
             about,
@@ -90,7 +103,7 @@ fn item(line: &str, about: Vec<String>, lines: &mut Numbered) -> Option<Item> {
         }));
     }
     if let Some(name) = between(line, "typedef struct Sizhbanto", " {") {
-        let fields = rows(lines, &format!("}} Sizhbanto{name};"), field)?;
+        let fields = parts(lines, &format!("}} Sizhbanto{name};"), field)?;
         let name = name.to_owned();
         return Some(Item::Struct(Struct {
             about,
@@ -103,8 +116,27 @@ fn item(line: &str, about: Vec<String>, lines: &mut Numbered) -> Option<Item> {
         about,
         result: rust_type(result)?,
         name: name.to_owned(),
-        parameters: parameters(lines)?,
+        parameters: parts(lines, ");", parameter)?,
     }))
+}
+
+/// `#define SIZHBANTO_MAX_TRACES 64` as `MAX_TRACES` and 64.
+fn constant(line: &str) -> Option<(&str, &str)> {
+    let words = line.strip_prefix("#define SIZHBANTO_")?.split_once(' ')?;
+    words.1.parse::<u64>().is_ok().then_some(words)
+}
+
+/// `SIZE(SizhbantoScene, 160` or `OFFSET(SizhbantoScene, connections, 112`.
+fn layout(words: &str) -> Option<Layout> {
+    let (what, words) = words.split_once("(Sizhbanto")?;
+    let words: Vec<_> = words.split(", ").map(str::to_owned).collect();
+    let (name, field, bytes) = match (what, &words[..]) {
+        ("SIZE", [name, bytes]) => (name, None, bytes),
+        ("OFFSET", [name, field, bytes]) => (name, Some(field.clone()), bytes),
+        _ => return None,
+    };
+    let (name, bytes) = (name.clone(), bytes.clone());
+    Some(Layout { name, field, bytes })
 }
 
 fn between<'a>(line: &'a str, before: &str, after: &str) -> Option<&'a str> {
@@ -121,7 +153,7 @@ fn rows<T>(lines: &mut Numbered, last: &str, row: impl Fn(&str) -> Option<T>) ->
 }
 
 /// `SIZHBANTO_BLOCK_KIND_PRESSURE_PLATE = 5,` as `PressurePlate` and 5.
-fn value(line: &str, name: &str) -> Option<(String, String)> {
+fn enum_value(line: &str, name: &str) -> Option<(String, String)> {
     let (words, number) = between(line, "    SIZHBANTO_", ",")?.split_once(" = ")?;
     let value = camel(words).strip_prefix(name)?.to_owned();
     Some((value, number.to_owned()))
@@ -138,59 +170,88 @@ pub fn camel(words: &str) -> String {
     name
 }
 
-fn field(line: &str) -> Option<(String, String)> {
-    let (kind, name) = between(line, "    ", ";")?.split_once(' ')?;
-    let kind = rust_type(kind)?;
-    Some(match name.split_once('[') {
-        None => (name.to_owned(), kind),
-        Some((name, count)) => (name.to_owned(), format!("[{kind}; {count}")),
-    })
-}
-
-fn parameters(lines: &mut Numbered) -> Option<Vec<Parameter>> {
+/// What stands on the lines up to the last one, each list with the comment above it.
+fn parts(lines: &mut Numbered, last: &str, part: fn(&str) -> Option<Part>) -> Option<Vec<Part>> {
     let (mut found, mut group) = (Vec::new(), None);
     for (_, line) in lines {
-        if line == ");" {
+        if line == last {
             return Some(found);
         }
         match line.strip_prefix("    // ") {
             Some(words) => group = Some(words.to_owned()),
             None => {
-                let parameter = parameter(line, group.clone())?;
-                group = parameter.group.clone();
-                found.push(parameter);
+                let part = part(line)?;
+                group = group.filter(|_| matches!(part.form, Form::List(_)));
+                found.push(Part {
+                    group: group.clone(),
+                    ..part
+                });
             }
         }
     }
     None
 }
 
-fn parameter(line: &str, group: Option<String>) -> Option<Parameter> {
+/// `type name;` or `type name[count];`, or a list.
+fn field(line: &str) -> Option<Part> {
+    let words = between(line, "    ", ";")?;
+    if let Some((words, length)) = words.split_once("; size_t ") {
+        return list(words, length);
+    }
+    let (kind, name) = words.split_once(' ')?;
+    let kind = rust_type(kind)?;
+    Some(match name.split_once('[') {
+        None => value(name, kind),
+        Some((name, count)) => value(name, format!("[{kind}; {count}")),
+    })
+}
+
+/// `type name`, a list, or a struct of lists by its pointer.
+fn parameter(line: &str) -> Option<Part> {
     let words = line.strip_prefix("    ")?.trim_end_matches(',');
-    let Some((words, length)) = words.split_once(", size_t ") else {
-        let (kind, name) = words.split_once(' ')?;
-        let (name, kind) = (name.to_owned(), rust_type(kind)?);
-        return Some(Parameter {
-            name,
-            kind,
-            access: Access::Number,
-            group: None,
+    if let Some((words, length)) = words.split_once(", size_t ") {
+        return list(words, length);
+    }
+    if words.contains('*') {
+        let (access, kind, name) = pointer(words)?;
+        let kind = kind.strip_prefix("Sizhbanto")?.to_owned();
+        let form = Form::Lent(access);
+        return Some(Part {
+            form,
+            ..value(name, kind)
         });
-    };
+    }
+    let (kind, name) = words.split_once(' ')?;
+    Some(value(name, rust_type(kind)?))
+}
+
+fn value(name: &str, kind: String) -> Part {
+    Part {
+        name: name.to_owned(),
+        kind,
+        form: Form::Value,
+        group: None,
+    }
+}
+
+/// `const type *name` and `name_length`.
+fn list(words: &str, length: &str) -> Option<Part> {
+    let (access, kind, name) = pointer(words)?;
+    let form = Form::List(access);
+    let kind = rust_type(kind)?;
+    (length.strip_suffix("_length") == Some(name)).then(|| Part {
+        form,
+        ..value(name, kind)
+    })
+}
+
+fn pointer(words: &str) -> Option<(Access, &str, &str)> {
     let (access, words) = match words.strip_prefix("const ") {
         Some(words) => (Access::Read, words),
         None => (Access::Written, words),
     };
     let (kind, name) = words.split_once(" *")?;
-    if length.strip_suffix("_length") != Some(name) {
-        return None;
-    }
-    Some(Parameter {
-        name: name.to_owned(),
-        kind: rust_type(kind)?,
-        access,
-        group,
-    })
+    Some((access, kind, name))
 }
 
 fn rust_type(name: &str) -> Option<String> {

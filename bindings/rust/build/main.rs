@@ -1,6 +1,7 @@
 //! Writes the declarations of `src/raw.rs` from the header for C, and links the library's archive from
 //! target/staticlib of the repository or from the folder that `SIZHBANTO_ARCHIVE` names.
 mod header;
+mod lists;
 mod raw;
 
 use std::env;

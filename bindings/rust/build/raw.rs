@@ -1,30 +1,28 @@
 //! Writes the declarations in Rust.
-use crate::header::{Access, Enum, Function, Item, Parameter, Struct, camel};
-use std::collections::BTreeMap;
+use crate::header::{Access, Enum, Form, Function, Item, Layout, Part, Struct};
+use crate::lists::Lists;
 
 pub fn write(items: &[Item]) -> String {
-    let mut text = String::new();
-    let mut groups = BTreeMap::new();
+    let mut lists = Lists::default();
+    let (mut text, mut tests) = (String::new(), String::new());
     for item in items {
         text += &match item {
             Item::Constant(name, number) => {
                 format!("/// `SIZHBANTO_{name}`\npub const {name}: usize = {number};\n")
             }
             Item::Enum(each) => write_enum(each),
-            Item::Struct(each) => write_struct(each),
-            Item::Function(each) => {
-                collect_groups(each, &mut groups);
-                write_function(each)
+            Item::Struct(each) => lists.write(each).unwrap_or_else(|| write_struct(each)),
+            Item::Function(each) => write_function(each),
+            Item::Layout(each) => {
+                tests += &write_test(each, &lists);
+                continue;
             }
         };
     }
-    for (group, fields) in groups {
-        text += &write_group(&group, &fields);
-    }
-    text
+    text + &tests + &lists.module()
 }
 
-fn comment(about: &[String], name: &str) -> String {
+pub fn comment(about: &[String], name: &str) -> String {
     match about {
         [] => format!("/// `{name}`\n"),
         lines => lines.iter().map(|line| format!("/// {line}\n")).collect(),
@@ -32,7 +30,7 @@ fn comment(about: &[String], name: &str) -> String {
 }
 
 /// The text of a row for each, one behind the other.
-fn each<T>(all: &[T], row: impl Fn(&T) -> String) -> String {
+pub fn each<T>(all: &[T], row: impl Fn(&T) -> String) -> String {
     all.iter().map(row).collect()
 }
 
@@ -57,8 +55,8 @@ fn write_enum(given: &Enum) -> String {
 
 fn write_struct(given: &Struct) -> String {
     let name = &given.name;
-    let fields = each(&given.fields, |(field, kind)| {
-        format!("    /// `{field}`\n    pub {field}: {kind},\n")
+    let fields = each(&given.fields, |Part { name, kind, .. }| {
+        format!("    /// `{name}`\n    pub {name}: {kind},\n")
     });
     format!(
         "{}#[repr(C)]\n#[derive(Clone, Copy, Debug, Default, Eq, PartialEq)]\npub struct {name} {{\n{fields}}}\n",
@@ -66,7 +64,17 @@ fn write_struct(given: &Struct) -> String {
     )
 }
 
-/// The declaration of the call, and a function with the same name but its first word that is lent vectors and slices.
+/// C and Rust lay the struct out alike.
+fn write_test(Layout { name, field, bytes }: &Layout, lists: &Lists) -> String {
+    let name = lists.laid_out(name);
+    let measured = match field {
+        None => format!("size_of::<{name}>()"),
+        Some(field) => format!("std::mem::offset_of!({name}, {field})"),
+    };
+    format!("const _: () = assert!({measured} == {bytes});\n")
+}
+
+/// The declaration of the call, and a function with the same name but its first word that is lent slices and structs.
 fn write_function(given: &Function) -> String {
     let Function {
         name,
@@ -77,105 +85,56 @@ fn write_function(given: &Function) -> String {
     let short = name.strip_prefix("sizhbanto_").expect("the name of a call");
     let declared = each(parameters, declaration);
     let passed = each(parameters, passed);
+    let arguments: Vec<_> = parameters.iter().map(argument).collect();
     format!(
         "unsafe extern \"C\" {{\n    /// `{name}`\n    pub fn {name}(\n{declared}    ) -> {result};\n}}\n\
          {}pub fn {short}({}) -> {result} {{\n    \
-         // every pointer and length is that of a list that outlives the call; nothing else refers to\n    \
-         // those written\n    \
+         // every pointer and length is that of a list, and every other pointer that of a struct, that outlives\n    \
+         // the call; nothing else refers to what is written\n    \
          unsafe {{\n        {name}(\n{passed}        )\n    }}\n}}\n",
         comment(about, name),
-        arguments(parameters).join(", ")
+        arguments.join(", ")
     )
 }
 
-fn declaration(given: &Parameter) -> String {
-    let Parameter {
-        name, kind, access, ..
-    } = given;
-    let pointer = match access {
-        Access::Number => return format!("        {name}: {kind},\n"),
+fn declaration(
+    Part {
+        name, kind, form, ..
+    }: &Part,
+) -> String {
+    let pointer = |access| match access {
         Access::Read => "*const",
         Access::Written => "*mut",
     };
-    format!("        {name}: {pointer} {kind}, {name}_length: usize,\n")
-}
-
-fn passed(given: &Parameter) -> String {
-    let name = match &given.group {
-        Some(group) => format!("{}.{}", title(group).replace(' ', "_"), given.name),
-        None => given.name.clone(),
+    let declared = match *form {
+        Form::Value => format!("{name}: {kind}"),
+        Form::List(access) => {
+            format!("{name}: {} {kind}, {name}_length: usize", pointer(access))
+        }
+        Form::Lent(access) => format!("{name}: {} lent::{kind}<'_>", pointer(access)),
     };
-    match given.access {
-        Access::Number => format!("            {name},\n"),
-        Access::Read => format!("            {name}.as_ptr(), {name}.len(),\n"),
-        Access::Written => format!("            {name}.as_mut_ptr(), {name}.len(),\n"),
-    }
+    format!("        {declared},\n")
 }
 
-/// A group of lists is one argument.
-fn arguments(parameters: &[Parameter]) -> Vec<String> {
-    let mut found = Vec::new();
-    for each in parameters {
-        let lent = if each.access == Access::Written {
-            "&mut "
-        } else {
-            "&"
-        };
-        let argument = match (&each.group, each.access) {
-            (Some(group), _) => {
-                let title = title(group);
-                format!("{}: {lent}{}", title.replace(' ', "_"), camel(title))
-            }
-            (None, Access::Number) => format!("{}: {}", each.name, each.kind),
-            (None, _) => format!("{}: {lent}[{}]", each.name, each.kind),
-        };
-        if found.last() != Some(&argument) {
-            found.push(argument);
-        }
-    }
-    found
+fn passed(Part { name, form, .. }: &Part) -> String {
+    let passed = match form {
+        Form::List(Access::Read) => format!("{name}.as_ptr(), {name}.len()"),
+        Form::List(Access::Written) => format!("{name}.as_mut_ptr(), {name}.len()"),
+        Form::Value | Form::Lent(_) => name.clone(),
+    };
+    format!("            {passed},\n")
 }
 
-/// `list 0, timed edges: M` as `timed edges`.
-fn title(group: &str) -> &str {
-    let words = group.split(':').next().unwrap_or(group);
-    words.rsplit(", ").next().unwrap_or(words)
-}
-
-/// Each group by its name, with the lists that it has in every function.
-fn collect_groups(given: &Function, groups: &mut BTreeMap<String, Vec<(String, String)>>) {
-    let mut own = BTreeMap::<_, Vec<_>>::new();
-    for each in &given.parameters {
-        if let Some(group) = &each.group {
-            let named = group.split(':').next().unwrap_or(group).to_owned();
-            own.entry(named)
-                .or_default()
-                .push((each.name.clone(), each.kind.clone()));
-        }
+fn argument(
+    Part {
+        name, kind, form, ..
+    }: &Part,
+) -> String {
+    match form {
+        Form::Value => format!("{name}: {kind}"),
+        Form::List(Access::Read) => format!("{name}: &[{kind}]"),
+        Form::List(Access::Written) => format!("{name}: &mut [{kind}]"),
+        Form::Lent(Access::Read) => format!("{name}: &lent::{kind}<'_>"),
+        Form::Lent(Access::Written) => format!("{name}: &mut lent::{kind}<'_>"),
     }
-    for (group, fields) in own {
-        let first = groups
-            .entry(group.clone())
-            .or_insert_with(|| fields.clone());
-        assert!(*first == fields, "{group} differ in {}", given.name);
-    }
-}
-
-fn write_group(group: &str, fields: &[(String, String)]) -> String {
-    let name = camel(title(group));
-    let lists = each(fields, |(field, kind)| {
-        format!("    /// `{field}`\n    pub {field}: Vec<{kind}>,\n")
-    });
-    let resized = each(fields, |(field, _)| {
-        format!("        self.{field}.resize(entries, 0);\n")
-    });
-    format!(
-        "/// The number lists of {group}.\n#[derive(Clone, Debug, Default, Eq, PartialEq)]\n\
-         pub struct {name} {{\n{lists}}}\nimpl {name} {{\n    \
-         /// Lists of so many entries, each 0.\n    \
-         pub fn with_room(entries: usize) -> Self {{\n        let mut lists = Self::default();\n        \
-         lists.resize(entries);\n        lists\n    }}\n    \
-         /// Makes every list so long, by zeros at the end.\n    \
-         pub fn resize(&mut self, entries: usize) {{\n{resized}    }}\n}}\n"
-    )
 }

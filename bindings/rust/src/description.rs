@@ -1,6 +1,6 @@
 //! Lists 0, 1 and 2.
 use crate::raw::{self, BlockKind, EdgeBehavior, TemporalSemantics};
-use crate::{DelayRange, Pos, Refusal, known};
+use crate::{DelayRange, Pos, known};
 
 /// A connection that is an edge, with the delay of its source.
 #[derive(Clone, Copy, Debug, Eq, Hash, PartialEq)]
@@ -47,81 +47,46 @@ pub enum TemporalEvidence {
     },
 }
 
-/// The three lists of an accepted scene, and how many entries of each are used.
-pub(crate) struct Described {
-    numbers: raw::DescriptionNumbers,
-    edges: raw::TimedEdges,
-    devices: raw::Devices,
-    evidence: raw::Evidence,
+// Entries 0 up to `used` of each list; the library answers how many are used.
+
+pub(crate) fn timed_edges(lists: &raw::TimedEdgeLists, used: u64) -> Vec<TimedEdge> {
+    let entry = |i: usize| TimedEdge {
+        source: lists.sources[i],
+        sink: lists.sinks[i],
+        delay: DelayRange {
+            minimum_redstone_ticks: lists.minimums[i],
+            maximum_redstone_ticks: lists.maximums[i],
+        },
+        behavior: known(EdgeBehavior::from_code(lists.behaviors[i])),
+    };
+    (0..used as usize).map(entry).collect()
 }
 
-impl Described {
-    pub fn by(
-        components: &raw::Components,
-        connections: &raw::Connections,
-    ) -> Result<Self, Refusal> {
-        let (n, m) = (components.ids.len(), connections.sources.len());
-        let mut edges = raw::TimedEdges::with_room(m);
-        let mut devices = raw::Devices::with_room(n);
-        let mut evidence = raw::Evidence::with_room(m + n);
-        let numbers = raw::describe_scene(
-            components,
-            connections,
-            &mut edges,
-            &mut devices,
-            &mut evidence,
-        );
-        Refusal::check(numbers.number, numbers.place)?;
-        Ok(Self {
-            numbers,
-            edges,
-            devices,
-            evidence,
-        })
-    }
+pub(crate) fn devices(lists: &raw::DeviceLists, used: u64) -> Vec<TemporalDevice> {
+    let entry = |i: usize| TemporalDevice {
+        component: lists.components[i],
+        physical_position: Pos {
+            x: lists.xs[i],
+            y: lists.ys[i],
+            z: lists.zs[i],
+        },
+        semantics: known(TemporalSemantics::from_code(lists.semantics[i])),
+        minimum_delay_redstone_ticks: lists.delays[i],
+    };
+    (0..used as usize).map(entry).collect()
+}
 
-    pub fn timed_edges(&self) -> Vec<TimedEdge> {
-        let lists = &self.edges;
-        let entry = |i: usize| TimedEdge {
-            source: lists.edge_sources[i],
-            sink: lists.edge_sinks[i],
-            delay: DelayRange {
-                minimum_redstone_ticks: lists.edge_minimums[i],
-                maximum_redstone_ticks: lists.edge_maximums[i],
-            },
-            behavior: known(EdgeBehavior::from_code(lists.edge_behaviors[i])),
-        };
-        (0..self.numbers.timed_edges as usize).map(entry).collect()
-    }
-
-    pub fn devices(&self) -> Vec<TemporalDevice> {
-        let lists = &self.devices;
-        let entry = |i: usize| TemporalDevice {
-            component: lists.device_components[i],
-            physical_position: Pos {
-                x: lists.device_xs[i],
-                y: lists.device_ys[i],
-                z: lists.device_zs[i],
-            },
-            semantics: known(TemporalSemantics::from_code(lists.device_semantics[i])),
-            minimum_delay_redstone_ticks: lists.device_delays[i],
-        };
-        (0..self.numbers.devices as usize).map(entry).collect()
-    }
-
-    pub fn evidence(&self) -> Vec<TemporalEvidence> {
-        use raw::TemporalEvidence as Kind;
-        let lists = &self.evidence;
-        let entry = |i: usize| match known(Kind::from_code(lists.evidence_kinds[i])) {
-            Kind::VerifiedPhysicalConnection => TemporalEvidence::VerifiedPhysicalConnection {
-                source: lists.evidence_sources[i],
-                sink: lists.evidence_sinks[i],
-            },
-            Kind::DeviceSemantics => TemporalEvidence::DeviceSemantics {
-                component: lists.evidence_components[i],
-                block: known(BlockKind::from_code(lists.evidence_blocks[i])),
-            },
-        };
-        (0..self.numbers.evidence as usize).map(entry).collect()
-    }
+pub(crate) fn evidence(lists: &raw::EvidenceLists, used: u64) -> Vec<TemporalEvidence> {
+    use raw::TemporalEvidence as Kind;
+    let entry = |i: usize| match known(Kind::from_code(lists.kinds[i])) {
+        Kind::VerifiedPhysicalConnection => TemporalEvidence::VerifiedPhysicalConnection {
+            source: lists.sources[i],
+            sink: lists.sinks[i],
+        },
+        Kind::DeviceSemantics => TemporalEvidence::DeviceSemantics {
+            component: lists.components[i],
+            block: known(BlockKind::from_code(lists.blocks[i])),
+        },
+    };
+    (0..used as usize).map(entry).collect()
 }

@@ -41,21 +41,17 @@ pub struct TransientFinding {
 pub(crate) fn finding(lists: &raw::Findings, i: usize) -> TransientFinding {
     TransientFinding {
         pulse: PulseObservation {
-            component: lists.finding_components[i],
-            polarity: known(PulsePolarity::from_code(lists.finding_polarities[i])),
-            time_unit: known(TraceTimeUnit::from_code(lists.finding_units[i])),
-            start_tick: lists.finding_start_ticks[i],
-            end_tick: lists.finding_end_ticks[i],
-            width_ticks: lists.finding_widths[i],
-            surrounding_steady_value: lists.finding_steady[i] == 1,
-            evidence_event_indices: [
-                lists.finding_baselines[i],
-                lists.finding_starts[i],
-                lists.finding_ends[i],
-            ],
+            component: lists.components[i],
+            polarity: known(PulsePolarity::from_code(lists.polarities[i])),
+            time_unit: known(TraceTimeUnit::from_code(lists.units[i])),
+            start_tick: lists.start_ticks[i],
+            end_tick: lists.end_ticks[i],
+            width_ticks: lists.widths[i],
+            surrounding_steady_value: lists.steady[i] == 1,
+            evidence_event_indices: [lists.baselines[i], lists.starts[i], lists.ends[i]],
         },
-        verdict: known(TransientVerdict::from_code(lists.finding_verdicts[i])),
-        rationale: known(Rationale::from_code(lists.finding_rationales[i])),
+        verdict: known(TransientVerdict::from_code(lists.verdicts[i])),
+        rationale: known(Rationale::from_code(lists.rationales[i])),
     }
 }
 
@@ -63,18 +59,16 @@ pub(crate) fn finding(lists: &raw::Findings, i: usize) -> TransientFinding {
 pub(crate) fn push(lists: &mut raw::Findings, finding: &TransientFinding) {
     let pulse = &finding.pulse;
     let [baseline, start, end] = pulse.evidence_event_indices;
-    lists.finding_components.push(pulse.component);
-    lists.finding_polarities.push(pulse.polarity.code());
-    lists.finding_units.push(pulse.time_unit.code());
-    lists.finding_start_ticks.push(pulse.start_tick);
-    lists.finding_end_ticks.push(pulse.end_tick);
-    lists.finding_widths.push(pulse.width_ticks);
-    lists
-        .finding_steady
-        .push(pulse.surrounding_steady_value.into());
-    lists.finding_baselines.push(baseline);
-    lists.finding_starts.push(start);
-    lists.finding_ends.push(end);
-    lists.finding_verdicts.push(finding.verdict.code());
-    lists.finding_rationales.push(finding.rationale.code());
+    lists.components.push(pulse.component);
+    lists.polarities.push(pulse.polarity.code());
+    lists.units.push(pulse.time_unit.code());
+    lists.start_ticks.push(pulse.start_tick);
+    lists.end_ticks.push(pulse.end_tick);
+    lists.widths.push(pulse.width_ticks);
+    lists.steady.push(pulse.surrounding_steady_value.into());
+    lists.baselines.push(baseline);
+    lists.starts.push(start);
+    lists.ends.push(end);
+    lists.verdicts.push(finding.verdict.code());
+    lists.rationales.push(finding.rationale.code());
 }

@@ -43,13 +43,8 @@ impl Record {
     pub fn record_trace(&mut self, trace: &Trace) -> Result<Recorded, Refusal> {
         let held = self.held.findings as usize;
         self.findings.resize(held + trace.events.len());
-        let answer = raw::record_trace(
-            self.held,
-            trace.time_unit,
-            &trace.event_lists(),
-            &trace.contract_lists(),
-            &mut self.findings,
-        );
+        let lists = trace.lists();
+        let answer = raw::record_trace(self.held, &lists.lend(), &mut self.findings.lend());
         self.held = answer.held;
         self.findings.resize(self.held.findings as usize);
         Refusal::check(answer.number, answer.place)?;

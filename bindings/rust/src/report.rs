@@ -1,7 +1,7 @@
-//! What both scene calls answer, as one.
-use crate::assessment::Assessed;
-use crate::description::Described;
-use crate::raw::{BehaviorPattern, Mark, TemporalScope};
+//! What the scene call answers.
+use crate::assessment::{labels, marks, projected, reasons};
+use crate::description::{devices, evidence, timed_edges};
+use crate::raw::{self, BehaviorPattern, Mark, TemporalScope};
 use crate::{
     Label, Refusal, Scene, SteadyStateEdge, TemporalDevice, TemporalEvidence, TimedEdge,
     TimingReason, known,
@@ -39,19 +39,23 @@ pub struct Report {
 impl Scene {
     /// Analyses the scene, or says why it is refused.
     pub fn report(&self) -> Result<Report, Refusal> {
-        let (components, connections) = (self.component_lists(), self.connection_lists());
-        let described = Described::by(&components, &connections)?;
-        let assessed = Assessed::by(&components, &connections)?;
-        let numbers = &assessed.numbers;
+        let mut lists = raw::SceneLists::with_room(self.components.len(), self.connections.len());
+        let numbers = raw::analyze_scene(&self.lists().lend(), &mut lists.lend());
+        Refusal::check(numbers.number, numbers.place)?;
+        let raw::SceneLists {
+            description,
+            mut assessment,
+        } = lists;
+        assessment.feedback_ids.truncate(numbers.feedback as usize);
         Ok(Report {
-            timed_edges: described.timed_edges(),
-            devices: described.devices(),
-            evidence: described.evidence(),
-            reasons: assessed.reasons(),
-            feedback: assessed.feedback(),
-            marks: assessed.marks(),
-            projected: assessed.projected(),
-            labels: assessed.labels(),
+            timed_edges: timed_edges(&description.edges, numbers.timed_edges),
+            devices: devices(&description.devices, numbers.devices),
+            evidence: evidence(&description.evidence, numbers.evidence),
+            reasons: reasons(&assessment.reasons, numbers.reasons),
+            marks: marks(&assessment.marks),
+            projected: projected(&assessment.projected, numbers.projected),
+            labels: labels(&assessment.labels),
+            feedback: assessment.feedback_ids,
             scope: known(TemporalScope::from_code(numbers.scope)),
             pattern: known(BehaviorPattern::from_code(numbers.pattern)),
             confidence_percent: numbers.confidence,

@@ -93,27 +93,31 @@ pub struct Scene {
 }
 
 impl Scene {
-    pub(crate) fn component_lists(&self) -> raw::Components {
-        let mut lists = raw::Components::default();
+    /// The scene as number lists, which the calls of [`raw`] are lent.
+    pub fn lists(&self) -> raw::Scene {
+        let mut lists = raw::Scene::default();
         for component in &self.components {
-            lists.ids.push(component.id);
-            lists.kinds.push(component.kind);
-            lists.delays.push(component.delay);
-            lists.locked.push(component.locked);
-            lists.xs.push(component.pos.x);
-            lists.ys.push(component.pos.y);
-            lists.zs.push(component.pos.z);
+            push_component(&mut lists.components, component);
         }
-        lists
-    }
-
-    pub(crate) fn connection_lists(&self) -> raw::Connections {
-        let mut lists = raw::Connections::default();
         for connection in &self.connections {
-            lists.sources.push(connection.source);
-            lists.sinks.push(connection.sink);
-            lists.transfers.push(connection.transfer);
+            push_connection(&mut lists.connections, connection);
         }
         lists
     }
+}
+
+fn push_component(lists: &mut raw::Components, component: &Component) {
+    lists.ids.push(component.id);
+    lists.kinds.push(component.kind);
+    lists.delays.push(component.delay);
+    lists.locked.push(component.locked);
+    lists.xs.push(component.pos.x);
+    lists.ys.push(component.pos.y);
+    lists.zs.push(component.pos.z);
+}
+
+fn push_connection(lists: &mut raw::Connections, connection: &Connection) {
+    lists.sources.push(connection.source);
+    lists.sinks.push(connection.sink);
+    lists.transfers.push(connection.transfer);
 }

@@ -144,13 +144,8 @@ pub struct TransientAssessment {
 impl Trace {
     /// Judges every pulse, or says why the trace is refused.
     pub fn assess(&self) -> Result<TransientAssessment, Refusal> {
-        let mut findings = raw::Findings::with_room(self.events.len());
-        let answer = raw::assess_transients(
-            self.time_unit,
-            &self.event_lists(),
-            &self.contract_lists(),
-            &mut findings,
-        );
+        let mut findings = raw::Findings::with_room(0, self.events.len());
+        let answer = raw::assess_transients(&self.lists().lend(), &mut findings.lend());
         Refusal::check(answer.number, answer.place)?;
         Ok(TransientAssessment {
             findings: (0..answer.findings as usize)
@@ -161,27 +156,34 @@ impl Trace {
         })
     }
 
-    pub(crate) fn event_lists(&self) -> raw::Events {
-        let mut lists = raw::Events::default();
+    /// The trace as number lists, which the calls of [`raw`] are lent.
+    pub fn lists(&self) -> raw::Trace {
+        let mut lists = raw::Trace {
+            unit: self.time_unit,
+            ..raw::Trace::default()
+        };
         for event in &self.events {
-            lists.ticks.push(event.tick);
-            lists.components.push(event.component);
-            lists.powered.push(event.powered);
+            push_event(&mut lists.events, event);
         }
-        lists
-    }
-
-    pub(crate) fn contract_lists(&self) -> raw::Contracts {
-        let mut lists = raw::Contracts::default();
         for contract in &self.contracts {
-            lists.contract_components.push(contract.component);
-            lists.contract_intents.push(contract.intent);
-            lists.contract_powered.push(contract.powered);
-            lists.contract_polarities.push(contract.polarity);
-            lists.contract_units.push(contract.time_unit);
-            lists.contract_smallest.push(contract.minimum_width_ticks);
-            lists.contract_largest.push(contract.maximum_width_ticks);
+            push_contract(&mut lists.contracts, contract);
         }
         lists
     }
+}
+
+fn push_event(lists: &mut raw::Events, event: &BehaviorEvent) {
+    lists.ticks.push(event.tick);
+    lists.components.push(event.component);
+    lists.powered.push(event.powered);
+}
+
+fn push_contract(lists: &mut raw::Contracts, contract: &Contract) {
+    lists.components.push(contract.component);
+    lists.intents.push(contract.intent);
+    lists.powered.push(contract.powered);
+    lists.polarities.push(contract.polarity);
+    lists.units.push(contract.time_unit);
+    lists.smallest.push(contract.minimum_width_ticks);
+    lists.largest.push(contract.maximum_width_ticks);
 }

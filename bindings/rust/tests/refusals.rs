@@ -4,7 +4,7 @@ mod common;
 use common::{delayed_lamp, high_pulse, of};
 use sizhbanto::{
     BehaviorEvent, BlockKind, Connection, Contract, Record, Refusal, RefusalNumber, Scene,
-    SignalIntent, Trace, TransferKind, raw,
+    SignalIntent, Trace, TransferKind,
 };
 
 fn scene_refusal(change: impl Fn(&mut Scene)) -> Option<(u32, u64)> {
@@ -96,37 +96,6 @@ fn records() {
     assert_eq!(recording_refusal(0, [1, 0, 0, 0, 0]), Some((15, 0)));
     assert_eq!(recording_refusal(64, [1, 0, 0, 0, 1]), Some((15, 0)));
     assert_eq!(recording_refusal(1, [2, u64::MAX, 0, 0, 0]), Some((15, 0)));
-}
-
-/// The safe functions lend lists that are long enough and of one length; those of `raw` need not.
-#[test]
-fn lists_of_other_lengths() {
-    let mut components = raw::Components::with_room(1);
-    let mut connections = raw::Connections::with_room(0);
-    let mut feedback = raw::Feedback::with_room(0);
-    let mut refusal = |components: &raw::Components, connections: &raw::Connections| {
-        let answer = raw::feedback_scene(components, connections, &mut feedback);
-        (answer.number, answer.place)
-    };
-    assert_eq!(refusal(&components, &connections), (7, 4));
-    components.ys.push(0);
-    assert_eq!(refusal(&components, &connections), (8, 0));
-    components = raw::Components::default();
-    connections.sinks.push(0);
-    assert_eq!(refusal(&components, &connections), (8, 1));
-    let (mut events, mut contracts) = (raw::Events::default(), raw::Contracts::default());
-    contracts.contract_units.push(0);
-    let refusal = |events: &raw::Events, contracts: &raw::Contracts| {
-        let answer = raw::assess_transients(0, events, contracts, &mut raw::Findings::default());
-        (answer.number, answer.place)
-    };
-    assert_eq!(refusal(&events, &contracts), (8, 3));
-    events.ticks.push(0);
-    assert_eq!(refusal(&events, &contracts), (8, 2));
-    assert_eq!(
-        refusal(&raw::Events::with_room(1), &raw::Contracts::default()),
-        (7, 9)
-    );
 }
 
 #[test]

@@ -1,5 +1,5 @@
-//! Both scene calls against the unchanged Rust, at sizes that a scene may have.
-use compare::calls::{AssessLists, DescribeLists, SceneCall};
+//! The scene call and its two parts against the unchanged Rust, at sizes that a scene may have.
+use compare::calls::{AnalyzeLists, AssessLists, DescribeLists, SceneCall};
 use compare::case::Case;
 use compare::{rooms, rust, sides};
 use dustroute_ir::TemporalAnalysis;
@@ -15,7 +15,16 @@ const SIZES: [usize; 2] = [64, 512];
 pub fn table(rng: &mut Rng) -> Result<(), String> {
     println!(
         "{:<16}{:>6}{:>8}{:>11}{:>11}{:>11}{:>11}{:>10}{:>10}{:>10}",
-        "scene", "N", "M", "Rust", "describe", "assess", "both", "ratio", "describe", "assess"
+        "scene",
+        "N",
+        "M",
+        "Rust",
+        "scene call",
+        "describe",
+        "assess",
+        "ratio",
+        "describe",
+        "assess"
     );
     for n in SIZES {
         for name in NAMES {
@@ -23,7 +32,10 @@ pub fn table(rng: &mut Rng) -> Result<(), String> {
             row(rng, shape.expect("a shape of that name"), n)?;
         }
     }
-    println!("times in microseconds; ratio: the Rust's time to that of both calls, and of each\n");
+    println!(
+        "times in microseconds; ratio: the Rust's time to that of the scene call, and of each of its \
+         parts\n"
+    );
     Ok(())
 }
 
@@ -39,27 +51,23 @@ fn row(rng: &mut Rng, shape: &Shape, n: usize) -> Result<(), String> {
     let best = best(rng, &case);
     let (n, m) = (case.lists.ids.len(), case.lists.sources.len());
     let times = [0, 1, 2, 3].map(|thing| format!("{:>11.1}", best.microseconds(thing)));
-    let ratios = [3, 1, 2].map(|thing| format!("{:>10.1}", best.ratio(thing)));
+    let ratios = [1, 2, 3].map(|thing| format!("{:>10.1}", best.ratio(thing)));
     let (times, ratios) = (times.concat(), ratios.concat());
     println!("{:<16}{n:>6}{m:>8}{times}{ratios}", shape.0);
     Ok(())
 }
 
-/// The Rust, each call, and both calls one after the other.
+/// The Rust, the scene call, and each of its parts.
 fn best(rng: &mut Rng, case: &Case) -> Best {
     let scene = rust::physical_scene(&case.lists);
     let lists = &case.lists;
-    let mut lend = || {
-        (
-            DescribeLists::lend(rng, &case.describe),
-            AssessLists::lend(rng, &case.assess),
-        )
-    };
-    let ((mut describe, mut assess), (mut first, mut second)) = (lend(), lend());
+    let mut analyze = AnalyzeLists::lend(rng, &case.analyze);
+    let mut describe = DescribeLists::lend(rng, &case.describe);
+    let mut assess = AssessLists::lend(rng, &case.assess);
     Best::of(&mut [
         &mut || timed(|| TemporalAnalysis::from_scene(&scene)),
+        &mut || timed(|| analyze.call(lists)),
         &mut || timed(|| describe.call(lists)),
         &mut || timed(|| assess.call(lists)),
-        &mut || timed(|| (first.call(lists), second.call(lists))),
     ])
 }

@@ -96,6 +96,6 @@ fn best(rng: &mut Rng, case: &TraceCase) -> Best {
     let mut lent = FindingLists::lend(rng, &case.assess);
     Best::of(&mut [
         &mut || timed(|| rust_assess_transients(&trace, &contracts)),
-        &mut || timed(|| assess_transients(&case.lists, lent.slices())),
+        &mut || timed(|| assess_transients(&case.lists, &mut lent.lists())),
     ])
 }

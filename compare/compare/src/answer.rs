@@ -1,5 +1,9 @@
-//! A side's answer to an accepted scene, for both calls.
-use crate::calls::{AssessEntries, AssessLists, DescribeLists, SceneCall};
+//! A side's answer to an accepted scene, for each call.
+use library::analysis::AnalyzeNumbers;
+use library::assessment::AssessNumbers;
+use library::description::DescribeNumbers;
+
+use crate::calls::{AnalyzeLists, AssessEntries, AssessLists, DescribeLists, SceneCall};
 
 /// The numbers that a call hands back, and the entries of its lists that are in use.
 pub struct Answer<C: SceneCall> {
@@ -9,6 +13,7 @@ pub struct Answer<C: SceneCall> {
 
 pub type Described = Answer<DescribeLists>;
 pub type Assessed = Answer<AssessLists>;
+pub type Analyzed = Answer<AnalyzeLists>;
 
 /// A projected edge with its path; where the path is stored is left out.
 #[derive(Clone, Debug, Eq, Ord, PartialEq, PartialOrd)]
@@ -19,6 +24,25 @@ pub struct ProjectedEdge {
     pub minimum: u32,
     pub maximum: u32,
     pub path: Vec<u64>,
+}
+
+/// The numbers of the one call, by those of its parts.
+pub fn analyze_numbers(first: DescribeNumbers, second: AssessNumbers) -> AnalyzeNumbers {
+    AnalyzeNumbers {
+        timed_edges: first.timed_edges,
+        devices: first.devices,
+        evidence: first.evidence,
+        scope: second.scope,
+        pattern: second.pattern,
+        confidence: second.confidence,
+        reasons: second.reasons,
+        feedback: second.feedback,
+        retained: second.retained,
+        compressed: second.compressed,
+        projected: second.projected,
+        path_ids: second.path_ids,
+        ..AnalyzeNumbers::default()
+    }
 }
 
 impl AssessEntries {

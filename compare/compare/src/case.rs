@@ -3,7 +3,7 @@ use std::fmt::{self, Display, Formatter};
 
 use generator::lists::SceneLists;
 
-use crate::calls::{AssessLists, DescribeLists, SceneCall};
+use crate::calls::{AnalyzeLists, AssessLists, DescribeLists, SceneCall};
 use crate::document::need;
 
 #[derive(Clone)]
@@ -14,9 +14,11 @@ pub struct Case {
     pub room: Vec<usize>,
     /// The length of the list lent for the Feedback ids alone.
     pub feedback: usize,
-    /// The lengths of the number lists lent to the two calls.
+    /// The lengths of the number lists lent to the two parts.
     pub describe: Vec<usize>,
     pub assess: Vec<usize>,
+    /// And to the one call.
+    pub analyze: Vec<usize>,
     /// Gives the lent lists their contents.
     pub contents: u64,
 }
@@ -47,6 +49,7 @@ impl Case {
         };
         let describe = lengths(DescribeLists::LISTS, &self.describe);
         let assess = lengths(AssessLists::LISTS, &self.assess);
+        let analyze = lengths(AnalyzeLists::LISTS, &self.analyze);
         let check = self.check_room();
         let room = check
             .iter()
@@ -58,6 +61,7 @@ impl Case {
             feedback,
             describe,
             assess,
+            analyze,
             ..case
         }
     }
@@ -81,6 +85,7 @@ impl Display for Case {
         writeln!(out, "length of list 4 alone: {}", self.feedback)?;
         writeln!(out, "lengths of lists 0 to 2: {:?}", self.describe)?;
         writeln!(out, "lengths of lists 3 to 8: {:?}", self.assess)?;
+        writeln!(out, "lengths of lists 0 to 8 together: {:?}", self.analyze)?;
         write!(out, "contents of the lent lists: {}", self.contents)
     }
 }

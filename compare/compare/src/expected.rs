@@ -1,14 +1,29 @@
-//! What both calls have to answer to a scene that is accepted. The Rust decides; document 01's
+//! What the calls have to answer to a scene that is accepted. The Rust decides; document 01's
 //! words are held against it, and give the labels, which it does not have.
 use generator::lists::SceneLists;
 
-use crate::answer::{Assessed, Described};
+use crate::answer::{Analyzed, Assessed, Described, analyze_numbers};
+use crate::calls::AnalyzeEntries;
 use crate::difference::{Difference, equal};
 use crate::{document, rust};
 
 pub struct Expected {
     pub described: Described,
     pub assessed: Assessed,
+}
+
+impl Expected {
+    /// What the one call has to answer: both.
+    pub fn analyzed(&self) -> Analyzed {
+        let (described, assessed) = (&self.described, &self.assessed);
+        Analyzed {
+            numbers: analyze_numbers(described.numbers, assessed.numbers),
+            entries: AnalyzeEntries {
+                description: described.entries.clone(),
+                assessment: assessed.entries.clone(),
+            },
+        }
+    }
 }
 
 /// Nothing where the scene is refused whatever is lent.

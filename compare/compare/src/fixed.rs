@@ -1,15 +1,18 @@
 //! The families that are the same in every run.
-use generator::kinds::{LEVER, REPEATER};
-use generator::lists::SceneLists;
+use generator::damage::{Fault, damage};
+use generator::kinds::{LEVER, REPEATER, TORCH};
+use generator::lists::{ABSENT_DELAY, SceneLists};
 use generator::rng::Rng;
+use generator::small::rows;
 use generator::{faulty, fill, shapes, small};
 
 use crate::builds::BUILDS;
 use crate::rooms;
-use crate::run::{run, run_build};
+use crate::run::{as_known, run, run_build};
 use crate::tally::Tally;
 
-/// The builds of document 01, every small scene, every small faulty one, and every room of some.
+/// The builds of document 01, every small scene, every small faulty one, every room of some, and
+/// every pair of faults.
 pub fn families(tally: &mut Tally) -> Result<(), String> {
     let rng = &mut Rng::new(0);
     for build in &BUILDS {
@@ -35,6 +38,55 @@ pub fn families(tally: &mut Tally) -> Result<(), String> {
         }
         for case in rooms::all_of_calls(rng, &lists) {
             run(tally, "all short number lists", &case)?;
+        }
+    }
+    one_part_short(tally, rng)?;
+    pairs(tally, rng)
+}
+
+/// One torch, no connection, and every list long enough but list 3: as two calls lists 1 and 2 are
+/// written, as one call nothing is.
+fn one_part_short(tally: &mut Tally, rng: &mut Rng) -> Result<(), String> {
+    let mut lists = SceneLists::default();
+    lists.push_component(1, TORCH, ABSENT_DELAY, 0, [0, 0, 0]);
+    let case = rooms::short(rng, lists, &[3]);
+    let agreed = run(tally, "one part too short", &case)?;
+    let told = agreed.expected.map(|expected| {
+        let written = expected.described.numbers;
+        let counts = [written.timed_edges, written.devices, written.evidence];
+        let refusals = [agreed.describe, agreed.assess, agreed.analyze];
+        format!("{refusals:?}, {counts:?} written by the first")
+    });
+    let known = "[None, Some((7, 3)), Some((7, 3))], [0, 1, 1] written by the first";
+    as_known(told, known, &case)
+}
+
+/// One fault for each step in the order of refusals but for 7; list 1 of the ten is of components,
+/// list 9 of connections.
+const STEPS: [Fault; 8] = [
+    Fault::Short(1),
+    Fault::Short(9),
+    Fault::Components(513),
+    Fault::Connections(2049),
+    Fault::Kind(13),
+    Fault::EqualIds,
+    Fault::Transfer(7),
+    Fault::AbsentSink,
+];
+
+/// Each of these faults with each, with room enough, and with lists too short of the first part, of
+/// the second and of both.
+fn pairs(tally: &mut Tally, rng: &mut Rng) -> Result<(), String> {
+    for faults in rows(&STEPS, 2) {
+        for short in [&[][..], &[1], &[8], &[2, 3]] {
+            let sketch = shapes::dense(rng, 5);
+            let mut lists = fill::filled(rng, &sketch);
+            damage(rng, &mut lists, &faults);
+            run(
+                tally,
+                "all pairs of faults",
+                &rooms::short(rng, lists, short),
+            )?;
         }
     }
     Ok(())

@@ -39,9 +39,29 @@ impl<T: Number> Lent<T> {
         &mut self.now[BESIDE..BESIDE + self.length]
     }
 
+    /// The list as it was lent.
+    pub fn before(&self) -> Self {
+        Self {
+            old: self.old.clone(),
+            now: self.old.clone(),
+            length: self.length,
+        }
+    }
+
     /// What the list holds now, without what is beside it.
     pub fn entries(&self) -> &[T] {
         &self.now[BESIDE..BESIDE + self.length]
+    }
+
+    /// Whether another list and what is beside it hold the same now.
+    pub fn same(&self, name: &str, other: &Self) -> Result<(), String> {
+        if self.now == other.now {
+            return Ok(());
+        }
+        let (wanted, got) = (&self.now, &other.now);
+        Err(format!(
+            "{name}, with what is beside it\n  wanted {wanted:?}\n  got    {got:?}"
+        ))
     }
 
     /// Whether the list begins with these entries, and all the rest is as it was.

@@ -18,4 +18,5 @@ pub mod rust;
 pub mod shrink;
 pub mod sides;
 pub mod tally;
+pub mod together;
 pub mod trace;

@@ -5,9 +5,10 @@ use generator::lists::{SUPPORT, SceneLists};
 use library::assessment::AssessNumbers;
 
 use crate::calls::AssessEntries;
+use crate::document::Refusal;
 use crate::expected::Expected;
 
-/// Each must be seen in a run.
+/// What answers show; each must be seen in a run.
 pub const WANTED: [&str; 21] = [
     "scope 0",
     "scope 1",
@@ -32,7 +33,33 @@ pub const WANTED: [&str; 21] = [
     "512 components, 2,048 connections",
 ];
 
-/// The names above that the answer shows.
+/// What the two parts of the one call say, on lists of the same lengths; each must be seen in a run.
+pub const TOGETHER: [&str; 7] = [
+    "both parts accept",
+    "both parts refuse alike",
+    "lists 0 to 2 written alone",
+    "lists 3 to 8 written alone",
+    "lists of both parts too short",
+    "lists 0 to 2 too short, a fault in a row",
+    "lists 3 to 8 too short, a fault in a row",
+];
+
+/// The name above that is theirs.
+pub fn together(refusals: [Option<Refusal>; 2]) -> &'static str {
+    let short = refusals.map(|refusal| refusal.is_some_and(|(number, _)| number == 7));
+    let accepted = refusals.map(|refusal| refusal.is_none());
+    TOGETHER[match (accepted, short) {
+        ([true, true], _) => 0,
+        (_, [false, false]) => 1,
+        ([true, _], _) => 2,
+        ([_, true], _) => 3,
+        (_, [true, true]) => 4,
+        (_, [true, _]) => 5,
+        _ => 6,
+    }]
+}
+
+/// The names of `WANTED` that the answer shows.
 pub fn shown(lists: &SceneLists, expected: &Expected) -> Vec<&'static str> {
     let entries = &expected.assessed.entries;
     let numbers = &expected.assessed.numbers;

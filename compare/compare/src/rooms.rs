@@ -3,7 +3,7 @@ use generator::lists::SceneLists;
 use generator::rng::Rng;
 use generator::small::rows;
 
-use crate::calls::{AssessLists, DescribeLists, SceneCall};
+use crate::calls::{AnalyzeLists, AssessLists, DescribeLists, SceneCall};
 use crate::case::Case;
 use crate::document::need;
 
@@ -24,6 +24,7 @@ fn tight(rng: &mut Rng, lists: SceneLists) -> Case {
         feedback: n,
         describe: needs(DescribeLists::LISTS),
         assess: needs(AssessLists::LISTS),
+        analyze: needs(AnalyzeLists::LISTS),
         contents: rng.word(),
     }
 }
@@ -42,8 +43,28 @@ pub fn enough(rng: &mut Rng, lists: SceneLists) -> Case {
         .map(|k| check_need(&case, k) + rng.pick(&MORE))
         .collect();
     case.feedback += rng.pick(&MORE);
-    for length in case.describe.iter_mut().chain(&mut case.assess) {
+    let parts = case.describe.iter_mut().chain(&mut case.assess);
+    for length in parts.chain(&mut case.analyze) {
         *length += rng.pick(&MORE);
+    }
+    case
+}
+
+/// A case with room enough, but for some output lists: each of their number lists is one short.
+pub fn short(rng: &mut Rng, scene: SceneLists, lists: &[usize]) -> Case {
+    let mut case = enough(rng, scene);
+    let (n, m) = (case.lists.ids.len(), case.lists.sources.len());
+    let calls = [
+        (DescribeLists::LISTS, &mut case.describe),
+        (AssessLists::LISTS, &mut case.assess),
+        (AnalyzeLists::LISTS, &mut case.analyze),
+    ];
+    for (numbers, lengths) in calls {
+        for (list, length) in numbers.iter().zip(lengths) {
+            if lists.contains(list) {
+                *length = need(n, m, *list).saturating_sub(1);
+            }
+        }
     }
     case
 }
@@ -62,6 +83,7 @@ pub fn doubtful(rng: &mut Rng, lists: SceneLists) -> Case {
     let (n, m) = (case.lists.ids.len(), case.lists.sources.len());
     shorten_some(rng, n, m, DescribeLists::LISTS, &mut case.describe);
     shorten_some(rng, n, m, AssessLists::LISTS, &mut case.assess);
+    shorten_some(rng, n, m, AnalyzeLists::LISTS, &mut case.analyze);
     case
 }
 
@@ -115,17 +137,20 @@ fn stepped(rng: &mut Rng, lists: &SceneLists, first: usize, steps: &[isize]) -> 
     case
 }
 
-/// For the two calls: every number list, and every two of them, one short; the rest just enough or
-/// longer.
+/// For the parts and the one call: every number list, and every two of them, one short; the rest just
+/// enough or longer.
 pub fn all_of_calls(rng: &mut Rng, lists: &SceneLists) -> Vec<Case> {
+    let first = DescribeLists::LISTS.len();
     let mut cases = Vec::new();
-    for a in 0..AssessLists::LISTS.len() {
-        for b in a..AssessLists::LISTS.len() {
+    for a in 0..AnalyzeLists::LISTS.len() {
+        for b in a..AnalyzeLists::LISTS.len() {
             let mut case = enough(rng, lists.clone());
             for k in [a, b] {
-                case.assess[k] = case.need(AssessLists::LISTS[k]).saturating_sub(1);
-                if let Some(list) = DescribeLists::LISTS.get(k) {
-                    case.describe[k] = case.need(*list).saturating_sub(1);
+                let length = case.need(AnalyzeLists::LISTS[k]).saturating_sub(1);
+                case.analyze[k] = length;
+                match k.checked_sub(first) {
+                    None => case.describe[k] = length,
+                    Some(k) => case.assess[k] = length,
                 }
             }
             cases.push(case);

@@ -70,9 +70,7 @@ pub fn run_orders(
 ) -> Result<(), String> {
     let one = run(tally, families[0], cases[0])?.expected;
     let other = run(tally, families[1], cases[1])?.expected;
-    agreeing(families[0], cases, [one, other], |one, other| {
-        same_answers(&one.assessed, &other.assessed)
-    })
+    agreeing(families[0], cases, [one, other], same_answers)
 }
 
 /// The answers of two cases of any sort are the same, where both have one.

@@ -1,7 +1,7 @@
 //! Makes a case that shows a difference smaller, as long as it shows one of the same sort.
 use generator::lists::SceneLists;
 
-use crate::calls::{AssessLists, DescribeLists, SceneCall};
+use crate::calls::{AnalyzeLists, AssessLists, DescribeLists, SceneCall};
 use crate::case::Case;
 
 /// Tries no more than so many cases.
@@ -127,7 +127,10 @@ fn plainer(case: &Case) -> impl Iterator<Item = Case> {
     let mut exact = case.clone();
     exact.describe = exact_lengths(case, DescribeLists::LISTS, &case.describe);
     exact.assess = exact_lengths(case, AssessLists::LISTS, &case.assess);
-    let shorter = exact.describe != case.describe || exact.assess != case.assess;
+    exact.analyze = exact_lengths(case, AnalyzeLists::LISTS, &case.analyze);
+    let shorter = exact.describe != case.describe
+        || exact.assess != case.assess
+        || exact.analyze != case.analyze;
     scenes.chain(shorter.then_some(exact))
 }
 

@@ -3,13 +3,13 @@ use generator::rng::Rng;
 use library::checks::{CheckedNumbers, FeedbackNumbers, check_scene, feedback_scene};
 
 use crate::answer::Answer;
-use crate::calls::{AssessLists, DescribeLists, SceneCall};
+use crate::calls::{AnalyzeLists, AssessLists, DescribeLists, SceneCall};
 use crate::case::Case;
 use crate::difference::{Difference, equal};
 use crate::document::{Refusal, expected_refusal};
 use crate::expected::{Expected, expected};
 use crate::lent::Lent;
-use crate::parts;
+use crate::{parts, together};
 
 /// What all sides agree on: the refusal of each call, if any, and the answer of a scene that
 /// nothing but want of room can have refused.
@@ -18,6 +18,9 @@ pub struct Agreed {
     pub feedback: Option<Refusal>,
     pub describe: Option<Refusal>,
     pub assess: Option<Refusal>,
+    pub analyze: Option<Refusal>,
+    /// Those of the two parts that are lent what the one call is lent.
+    pub parts: [Option<Refusal>; 2],
     pub expected: Option<Expected>,
 }
 
@@ -29,17 +32,23 @@ pub fn compare(case: &Case) -> Result<Agreed, Difference> {
     let rng = &mut Rng::new(case.contents);
     let check = compare_check(case)?;
     let feedback = compare_feedback(case, rng, ids.unwrap_or_default())?;
-    let (describe, _) = compare_call::<DescribeLists>(case, rng, &case.describe, described)?;
-    let (assess, lent) = compare_call::<AssessLists>(case, rng, &case.assess, assessed)?;
+    let (describe, _, _) = compare_call::<DescribeLists>(case, rng, &case.describe, described)?;
+    let (assess, _, lent) = compare_call::<AssessLists>(case, rng, &case.assess, assessed)?;
     if let (None, Some(assessed)) = (assess, assessed) {
         parts::compare_used(&lent, &assessed.entries)?;
     }
     parts::compare_any(rng, &lent)?;
+    let analyzed = expected.as_ref().map(Expected::analyzed);
+    let (analyze, numbers, lent) =
+        compare_call::<AnalyzeLists>(case, rng, &case.analyze, analyzed.as_ref())?;
+    let parts = together::compare(&case.lists, numbers, &lent)?;
     Ok(Agreed {
         check,
         feedback,
         describe,
         assess,
+        analyze,
+        parts,
         expected,
     })
 }
@@ -77,13 +86,13 @@ fn compare_feedback(
     Ok(refusal)
 }
 
-/// One of the two calls; its lists come back as it left them.
+/// One of the calls that write many lists; what it answers and its lists as it left them come back.
 fn compare_call<C: SceneCall>(
     case: &Case,
     rng: &mut Rng,
     lengths: &[usize],
     answer: Option<&Answer<C>>,
-) -> Result<(Option<Refusal>, C), Difference> {
+) -> Result<(Option<Refusal>, C::Numbers, C), Difference> {
     let lists = C::LISTS.iter().copied();
     let room: Vec<_> = lists.zip(lengths.iter().copied()).collect();
     let refusal = expected_refusal(&case.lists, &room);
@@ -93,9 +102,9 @@ fn compare_call<C: SceneCall>(
         (refusal, _) => (C::refused(refusal.expect("no answer, no room")), &none),
     };
     let mut lent = C::lend(rng, lengths);
-    let answer = lent.call(&case.lists);
-    equal(C::NAME, &numbers, &answer)?;
+    let got = lent.call(&case.lists);
+    equal(C::NAME, &numbers, &got)?;
     let held = lent.hold(entries);
     held.map_err(|told| Difference::new(C::NAME, &told))?;
-    Ok((refusal, lent))
+    Ok((refusal, got, lent))
 }

@@ -4,9 +4,9 @@ use std::fmt::{self, Display, Formatter};
 
 use generator::lists::SceneLists;
 
-use crate::calls::{AssessLists, DescribeLists, SceneCall};
+use crate::calls::{AnalyzeLists, AssessLists, DescribeLists, SceneCall};
 use crate::document::Refusal;
-use crate::reached::{WANTED, shown};
+use crate::reached::{TOGETHER, WANTED, shown, together};
 use crate::sides::Agreed;
 
 /// Of one family.
@@ -70,13 +70,14 @@ impl Display for Refusals {
     }
 }
 
-const CALLS: [&str; 4] = ["check", "feedback", "describe", "assess"];
+const CALLS: [&str; 5] = ["check", "feedback", "describe", "assess", "analyze"];
 
 #[derive(Default)]
 pub struct Tally {
     families: Families<Counts>,
-    refusals: [Refusals; 4],
+    refusals: [Refusals; 5],
     shown: BTreeMap<&'static str, usize>,
+    together: BTreeMap<&'static str, usize>,
 }
 
 impl Tally {
@@ -86,13 +87,15 @@ impl Tally {
             agreed.feedback,
             agreed.describe,
             agreed.assess,
+            agreed.analyze,
         ];
         for (refusals, refusal) in self.refusals.iter_mut().zip(calls) {
             refusals.add(refusal);
         }
+        *self.together.entry(together(agreed.parts)).or_default() += 1;
         let counts = counts_of(&mut self.families, family);
         counts.cases += 1;
-        if let (None, Some(expected)) = (agreed.assess, &agreed.expected) {
+        if let (None, Some(expected)) = (agreed.analyze, &agreed.expected) {
             let kinds = &expected.assessed.entries.reason_kinds;
             counts.accepted += 1;
             counts.with_feedback += usize::from(kinds.contains(&1));
@@ -105,8 +108,8 @@ impl Tally {
 
     /// What a run must have reached and has not; a comparison of nothing proves nothing.
     pub fn missing(&self) -> Vec<String> {
-        let all: Vec<usize> = (0..=8).collect();
-        let lists: [&[usize]; 4] = [&all, &[4], DescribeLists::LISTS, AssessLists::LISTS];
+        let all = AnalyzeLists::LISTS;
+        let lists: [&[usize]; 5] = [all, &[4], DescribeLists::LISTS, AssessLists::LISTS, all];
         let mut missing = Vec::new();
         for ((call, refusals), lists) in CALLS.iter().zip(&self.refusals).zip(lists) {
             let places = lists.iter().map(|list| (7, *list as u64));
@@ -114,6 +117,10 @@ impl Tally {
         }
         let unseen = WANTED.iter().filter(|name| !self.shown.contains_key(*name));
         missing.extend(unseen.map(|name| format!("no answer showed '{name}'")));
+        let unseen = TOGETHER
+            .iter()
+            .filter(|name| !self.together.contains_key(*name));
+        missing.extend(unseen.map(|name| format!("no case had '{name}'")));
         missing
     }
 }
@@ -138,7 +145,12 @@ impl Display for Tally {
         for (call, refusals) in CALLS.iter().zip(&self.refusals) {
             writeln!(out, "refusals by {call}: {refusals}")?;
         }
-        write!(out, "scenes that show {}", listed(&self.shown))
+        writeln!(out, "scenes that show {}", listed(&self.shown))?;
+        write!(
+            out,
+            "the one call beside its parts: {}",
+            listed(&self.together)
+        )
     }
 }
 

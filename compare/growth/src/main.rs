@@ -20,7 +20,7 @@ use run::{Outcome, Run};
 /// With `--stack` all of it runs in a thread that has so much stack.
 const USAGE: &str = "growth [--stack KIB] sort N SEED
 growth [--stack KIB] search N SEED
-growth [--stack KIB] mark|reconverge|check|feedback SHAPE N SEED
+growth [--stack KIB] mark|reconverge|check|feedback|analyze SHAPE N SEED
 growth [--stack KIB] trace TRACE N SEED";
 
 fn misused() -> ! {
@@ -65,6 +65,7 @@ fn run(words: &[&str]) -> Outcome {
                 "reconverge" => reconverge::run(&mut rng, n, &edges),
                 "check" => scene::check(&mut rng, n, edges),
                 "feedback" => scene::feedback(&mut rng, n, edges),
+                "analyze" => scene::analyze(&mut rng, n, edges),
                 _ => misused(),
             }
         }

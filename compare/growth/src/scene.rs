@@ -1,4 +1,8 @@
-//! The scene calls, on scenes of repeaters: each that shares its cycle is in list 4.
+//! The scene calls, on scenes of repeaters: each that shares its cycle is in list 4. The answer of the
+//! call that writes all lists is the one that `compare` wants.
+use compare::calls::{AnalyzeLists, SceneCall};
+use compare::expected::expected;
+use compare::rooms;
 use generator::fill::filled;
 use generator::kinds::REPEATER;
 use generator::lists::SceneLists;
@@ -37,6 +41,19 @@ pub fn check(rng: &mut Rng, n: usize, edges: Vec<Pair>) -> Outcome {
         compare(&[check_scene(&lists, 4, &[n])], &[accepted])?;
     }
     Ok(runs(&lists))
+}
+
+pub fn analyze(rng: &mut Rng, n: usize, edges: Vec<Pair>) -> Outcome {
+    let (lists, _) = scene(rng, n, edges);
+    let case = rooms::enough(rng, lists);
+    let expected = expected(&case.lists).map_err(|difference| difference.told)?;
+    let wanted = expected.expect("an accepted scene").analyzed();
+    let mut lent = AnalyzeLists::lend(rng, &case.analyze);
+    for _ in 0..CALLS {
+        compare(&[lent.call(&case.lists)], &[wanted.numbers])?;
+    }
+    lent.hold(&wanted.entries)?;
+    Ok(runs(&case.lists))
 }
 
 pub fn feedback(rng: &mut Rng, n: usize, edges: Vec<Pair>) -> Outcome {

@@ -3,7 +3,8 @@ use generator::rng::Rng;
 use generator::trace::contracts;
 use generator::trace::events::{Shape, busy_trace, each, few, many};
 use generator::trace::lists::TraceLists;
-use library::traces::{AssessedTrace, FindingSlices, assess_transients};
+use library::lent::Findings;
+use library::traces::{AssessedTrace, assess_transients};
 use plain::trace::{Finding, answer};
 
 use crate::run::{CALLS, Outcome, Run, compare};
@@ -32,8 +33,8 @@ macro_rules! written_lists {
                 Self { $($field: vec![<$type>::MAX; n],)* }
             }
 
-            fn slices(&mut self) -> FindingSlices<'_> {
-                FindingSlices { $($field: &mut self.$field,)* }
+            fn lists(&mut self) -> Findings<'_> {
+                Findings { $($field: (&mut self.$field[..]).into(),)* }
             }
 
             fn compare(&self, findings: &[Finding]) -> Result<(), String> {
@@ -61,7 +62,10 @@ pub fn run(lists: &TraceLists) -> Outcome {
     };
     let mut written = Written::new(n);
     for _ in 0..CALLS {
-        compare(&[assess_transients(lists, written.slices())], &[numbers])?;
+        compare(
+            &[assess_transients(lists, &mut written.lists())],
+            &[numbers],
+        )?;
     }
     written.compare(&expected.findings)?;
     Ok(Run {

@@ -1,6 +1,7 @@
 //! List 9 as it is lent: twelve number lists.
 use generator::rng::Rng;
-use library::traces::{FINDING_LISTS, FindingSlices};
+use library::lent::Findings;
+use library::traces::FINDING_LISTS;
 use plain::trace::Finding;
 
 use crate::lent::Lent;
@@ -23,8 +24,9 @@ macro_rules! finding_lists {
                 }
             }
 
-            pub fn slices(&mut self) -> FindingSlices<'_> {
-                FindingSlices { $($field: self.$field.part(),)* }
+            /// As a call is lent them.
+            pub fn lists(&mut self) -> Findings<'_> {
+                Findings { $($field: self.$field.part().into(),)* }
             }
 
             /// Whether these findings are in the lists from `start` on, and all the rest is as it

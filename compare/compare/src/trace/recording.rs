@@ -43,7 +43,7 @@ pub fn compare(recording: &Recording) -> Result<Recorded, Difference> {
             None => Some(rust::recorded(&mut analysis, lists)),
             Some(_) => None,
         };
-        let got = record_trace(held, lists, lent.slices());
+        let got = record_trace(held, lists, &mut lent.lists());
         equal(
             RECORD,
             &recorded_numbers(&held, refusal, answer.as_ref()),

@@ -50,7 +50,7 @@ fn compare_assess(
     let refusal = trace_refusal(&case.lists, case.assess_need() as u64, &case.assess);
     let answer = accepted(refusal, answer);
     let mut lent = FindingLists::lend(rng, &case.assess);
-    let got = assess_transients(&case.lists, lent.slices());
+    let got = assess_transients(&case.lists, &mut lent.lists());
     equal(ASSESS, &assessed_numbers(refusal, answer), &got)?;
     hold(ASSESS, &lent, 0, answer)?;
     Ok(refusal)
@@ -64,7 +64,7 @@ fn compare_record(
     let refusal = recording_refusal(&case.held, &case.lists, &case.record);
     let answer = accepted(refusal, answer);
     let mut lent = FindingLists::lend(rng, &case.record);
-    let got = record_trace(case.held, &case.lists, lent.slices());
+    let got = record_trace(case.held, &case.lists, &mut lent.lists());
     equal(RECORD, &recorded_numbers(&case.held, refusal, answer), &got)?;
     hold(RECORD, &lent, case.held.findings, answer)?;
     Ok(refusal)
