@@ -106,17 +106,17 @@ module _ (limits : SceneLimits) (l : ComponentLists) (m : ConnectionLists) where
     abbrev whole : List Output
     whole = outputs_from 0 (length l.ids) (length m.sources) (l0 ∷ l1 ∷ l2 ∷ l3 ∷ l4 ∷ l5 ∷ l6 ∷ l7 ∷ l8 ∷ [])
 
-    -- a scene that is accepted with all nine lists is accepted by both calls
+    -- a scene that is accepted with all nine lists is accepted by both parts
     pub calls-accepted : check_scene limits l m whole ≡ accepted → (check_describe limits l m l0 l1 l2 ≡ accepted) × (check_assess limits l m l3 l4 l5 l6 l7 l8 ≡ accepted)
     unfolding check_describe check_assess
     calls-accepted e = together described assessed e
 
-    -- and one that both calls accept is accepted with all nine
+    -- and one that both parts accept is accepted with all nine
     pub calls-whole : check_describe limits l m l0 l1 l2 ≡ accepted → check_assess limits l m l3 l4 l5 l6 l7 l8 ≡ accepted → check_scene limits l m whole ≡ accepted
     unfolding check_describe check_assess
     calls-whole e f = both described assessed e f
 
-    -- where one of the two calls is accepted and the other refused, a list of the refused one is too short
+    -- where one of the parts is accepted and the other refused, a list of the refused one is too short
     pub calls-apart : {r : Refusal} → (check_describe limits l m l0 l1 l2 ≡ accepted → check_assess limits l m l3 l4 l5 l6 l7 l8 ≡ Err r → r.kind ≡ ListTooShort)
         × (check_assess limits l m l3 l4 l5 l6 l7 l8 ≡ accepted → check_describe limits l m l0 l1 l2 ≡ Err r → r.kind ≡ ListTooShort)
     unfolding check_describe check_assess

@@ -9,7 +9,7 @@ pub mod DescribeReordering
 pub mod AnalyzeReordering
 -- what the trace call and recording promise
 pub mod TraceCalls
--- that the two calls on one scene part only by the room of their lists
+-- what the scene call has to do with its two parts, which part only by the room of their lists
 pub mod CallsTogether
 -- what the entries in use of an accepted call are
 pub mod CallEntries

@@ -32,8 +32,8 @@ pub(crate) fn lists_fit(
 }
 
 // Whether there is a sink for each source, some lists have an entry for each node and no more, some for each node at
-// least, some for each edge at least, and list 7 has two for each edge at least. room_of of assess reads some of these
-// lengths too, but takes the shortest, where here each is tested.
+// least, some for each edge at least, and list 7 has two for each edge at least. assessment_room of assess reads some of
+// these lengths too, but takes the shortest, where here each is tested.
 fn lengths_fit(
     nodes: &Nodes<'_>,
     edges: &Edges<'_>,

@@ -10,8 +10,8 @@ use lengths::each_at_least;
 use rules::lent::{Components, LabelLists, ReasonLists};
 use rules::limits::{MAX_COMPONENTS, MAX_CONNECTIONS};
 
-// Whether all of them fit. They come one by one, as assess_within says; room_of of assess has their lengths too, but takes the
-// shortest, where here each is tested.
+// Whether all of them fit. They come one by one, as assess_within says; assessment_room of assess has their lengths too, but
+// takes the shortest, where here each is tested.
 #[tactic(auto, unfolding(crate::specs::Fits::reasons_fit, crate::specs::Fits::reasons_room, crate::specs::Fits::labels_room))]
 pub(crate) fn reasons_fit(
     components: &Components<'_>,

@@ -22,7 +22,7 @@ use Rattle.rules.specs.Verdicts.{ContractLists, contract_lists as contracts, con
 use Rattle.rules.specs.Traces.{TraceLimits, trace_limits, TraceLists, trace_lists as traced, event_count, contract_count, event_lengths, contract_lengths, contract_out_of_range, not_above_before, contract_tests, trace_tests, check_trace, trace_findings, transient_answer, transient_numbers, transient_tallies}
 use Rattle.rules.specs.Recording.{TransientRecord, record_false, record_tests, check_recording, add_tallies, grown, findings_after, record_after}
 
--- A scene's answer: its numbers, then lists 3 to 7 and 8, an entry of several fields as a row of numbers
+-- The answer of the call that writes lists 3 to 8: its numbers, then these lists, an entry of several fields as a row of numbers
 pub record Report : Type 0 where
   pub numbers : List ℕ
   pub reasons : List (List ℕ)
@@ -32,7 +32,7 @@ pub record Report : Type 0 where
   pub starts : List ℕ
   pub labels : List (List ℕ)
 
--- The answer of the other scene call, with lists 0 to 2
+-- The answer of the call that writes lists 0 to 2, with these
 pub record Described : Type 0 where
   pub numbers : List ℕ
   pub edges : List (List ℕ)

@@ -45,7 +45,7 @@ pub shortest-enough : (limits : SceneLimits) (l : ComponentLists) (m : Connectio
 unfolding check_scene scene_tests size_tests
 shortest-enough limits l m k lists e = rw (same_tests (length l.ids) (length m.sources) k lists e)
 
--- so are the two scene calls
+-- so is it by the two parts of the scene call
 pub shortest-describe : (limits : SceneLimits) (l : ComponentLists) (m : ConnectionLists) (l0 l1 l2 : List ℕ) → EachListed (l0 ∷ l1 ∷ l2 ∷ [])
     → check_describe limits l m l0 l1 l2 ≡ check_scene limits l m (room_outputs (length l.ids) (length m.sources) 0 (shortest l0 ∷ shortest l1 ∷ shortest l2 ∷ []))
 unfolding check_describe

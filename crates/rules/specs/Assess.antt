@@ -66,7 +66,7 @@ pub record AssessLists : Type 0 where
   pub label_lows : List ℕ
   pub label_highs : List ℕ
 
--- these lists, one by one in the order in which the call takes them
+-- these lists, one by one in the order of the fields
 abbrev pub assess_lists : (reason_kinds reason_components reason_blocks reason_minimums reason_maximums feedback_ids marks projected_sources projected_sinks projected_inverted projected_minimums projected_maximums projected_starts projected_lengths path_ids label_settled label_lows label_highs : List ℕ) → AssessLists
 assess_lists x0 x1 x2 x3 x4 x5 x6 x7 x8 x9 x10 x11 x12 x13 x14 x15 x16 x17 =
     record { reason_kinds = x0; reason_components = x1; reason_blocks = x2; reason_minimums = x3; reason_maximums = x4; feedback_ids = x5; marks = x6; projected_sources = x7; projected_sinks = x8; projected_inverted = x9; projected_minimums = x10; projected_maximums = x11; projected_starts = x12; projected_lengths = x13; path_ids = x14; label_settled = x15; label_lows = x16; label_highs = x17 }

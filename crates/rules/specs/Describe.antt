@@ -135,7 +135,7 @@ pub record DescribeLists : Type 0 where
   pub evidence_components : List ℕ
   pub evidence_blocks : List ℕ
 
--- these lists, one by one in the order in which the call takes them
+-- these lists, one by one in the order of the fields
 abbrev pub describe_lists : (edge_sources edge_sinks edge_minimums edge_maximums edge_behaviors device_components : List ℕ) → (device_xs device_ys device_zs : List ℤ) → (device_semantics device_delays evidence_kinds evidence_sources evidence_sinks evidence_components evidence_blocks : List ℕ) → DescribeLists
 describe_lists x0 x1 x2 x3 x4 x5 x6 x7 x8 x9 x10 x11 x12 x13 x14 x15 =
     record { edge_sources = x0; edge_sinks = x1; edge_minimums = x2; edge_maximums = x3; edge_behaviors = x4; device_components = x5; device_xs = x6; device_ys = x7; device_zs = x8; device_semantics = x9; device_delays = x10; evidence_kinds = x11; evidence_sources = x12; evidence_sinks = x13; evidence_components = x14; evidence_blocks = x15 }

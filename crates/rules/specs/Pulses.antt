@@ -19,7 +19,7 @@ pub record EventLists : Type 0 where
   pub components : List ℕ
   pub powered : List ℕ
 
--- these lists, one by one in the order in which a call takes them
+-- these lists, one by one in the order of the fields
 abbrev pub event_lists : (ticks components powered : List ℕ) → EventLists
 event_lists ticks components powered = record { ticks = ticks; components = components; powered = powered }
 

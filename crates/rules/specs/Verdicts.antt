@@ -33,7 +33,7 @@ pub record ContractLists : Type 0 where
   pub smallest : List ℕ
   pub largest : List ℕ
 
--- these lists, one by one in the order in which a call takes them
+-- these lists, one by one in the order of the fields
 abbrev pub contract_lists : (components intents powered polarities units smallest largest : List ℕ) → ContractLists
 contract_lists x0 x1 x2 x3 x4 x5 x6 =
     record { components = x0; intents = x1; powered = x2; polarities = x3; units = x4; smallest = x5; largest = x6 }
@@ -167,7 +167,7 @@ pub record FindingLists : Type 0 where
   pub verdicts : List ℕ
   pub rationales : List ℕ
 
--- these lists, one by one in the order in which a call takes them
+-- these lists, one by one in the order of the fields
 abbrev pub finding_lists : (components polarities units start_ticks end_ticks widths steady baselines starts ends verdicts rationales : List ℕ) → FindingLists
 finding_lists x0 x1 x2 x3 x4 x5 x6 x7 x8 x9 x10 x11 =
     record { components = x0; polarities = x1; units = x2; start_ticks = x3; end_ticks = x4; widths = x5; steady = x6; baselines = x7; starts = x8; ends = x9; verdicts = x10; rationales = x11 }

@@ -97,7 +97,7 @@ impl From<Recorded> for RecordedTrace {
     }
 }
 
-// record_trace for C.
+// recorded for C: the record goes in and comes out by value.
 #[unsafe(no_mangle)]
 pub extern "C" fn sizhbanto_record_trace(
     held: TransientRecord,
