@@ -1,5 +1,5 @@
 -- From the checks and the two parts to the call. Assumes nothing.
-use Rattle.std.proofs.Common.{Result, Ok, ◌≡◌, ℕ, List, length, sym, ◌∙◌}
+use Rattle.std.proofs.Common.{Result, Ok, ◌≡◌, ℕ, List, length, sym, ap, ◌∙◌}
 use Rattle.rules.specs.Scene.{ComponentLists, ConnectionLists, scene_of}
 use Rattle.rules.specs.Refusals.{Checked, accepted, scene_limits, room_outputs, check_scene}
 use Rattle.rules.specs.Describe.{describe_checked, DescribedBy}
@@ -14,7 +14,7 @@ use Rattle.scene.specs.Placed.{ScenePlaced}
 use Rattle.scene.specs.declared.place.Placed.{Placed}
 use Rattle.assess.specs.Ready.{assessment_room}
 use Rattle.rules.specs.declared.answers.Analysis.{Analysis}
-use Rattle.rules.specs.Analyze.{AnalyzeLists, analysis_lengths, analysis_checked, analysis, AnalyzedBy}
+use Rattle.rules.specs.Analyze.{AnalyzeLists, analysis_lengths, analysis_checked, analysis, analysis_numbers, AnalyzedBy}
 use Rattle.analyze.specs.Analyze.{analysis_room}
 
 module _ (l : ComponentLists) (m : ConnectionLists) (old : AnalyzeLists) where
@@ -34,4 +34,4 @@ module _ (l : ComponentLists) (m : ConnectionLists) (old : AnalyzeLists) where
       → AnalyzedBy checked (scene_of l m) old new (Ok (record { description = d; assessment = a }))
   call-analyzed e new d a described assessed =
       let told : ◌≡◌ {A = Result Analysis Refusal} (Ok (record { description = d; assessment = a })) (Ok (analysis (scene_of l m))) = cc (described.answered, assessed.answered) in
-      rw e (record { answered = told; described = described; assessed = assessed })
+      rw e (record { answered = told; numbered = ap analysis_numbers told; described = described; assessed = assessed })

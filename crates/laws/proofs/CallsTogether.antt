@@ -6,12 +6,12 @@ use mathlib.Core.Logic.{◌⊎◌, inl, inr, ⊎_elim}
 use mathlib.Core.Path.{◌≡◌, refl, sym, ap, subst, ◌∙◌}
 use Prim.Native.Nat.{ℕ}
 use lib.ListN.{length}
-use Rattle.std.specs.Prelude.{Ok, Err}
-use Rattle.rules.specs.Scene.{ComponentLists, ConnectionLists}
+use Rattle.std.specs.Prelude.{Result, Ok, Err}
+use Rattle.rules.specs.Scene.{ComponentLists, ConnectionLists, scene_of}
 use Rattle.rules.specs.Refusals.{Checked, accepted, Test, first_refusal, SceneLimits, Output, outputs_from, output_test, rows, component_tests, connection_tests, size_tests, scene_tests, check_scene}
 use Rattle.rules.specs.Describe.{describe_outputs, check_describe, describe_checked, DescribeCall}
 use Rattle.rules.specs.Assess.{assess_outputs, check_assess, assess_checked, AssessCall}
-use Rattle.rules.specs.Analyze.{AnalyzeLists, AnalyzeCall}
+use Rattle.rules.specs.Analyze.{AnalyzeLists, analysis, analysis_numbers, AnalyzeCall}
 use Rattle.rules.specs.declared.answers.Analysis.{Analysis}
 use Rattle.rules.specs.declared.answers.Assessment.{Assessment}
 use Rattle.rules.specs.declared.answers.Description.{Description}
@@ -139,7 +139,12 @@ module _ (limits : SceneLimits) (l : ComponentLists) (m : ConnectionLists) (old 
       let e = describe-accepted limits l m old.description new.description d described in
       let f = assess-accepted limits l m old.assessment new.assessment a assessed in
       let whole = calls-whole limits l m _ _ _ _ _ _ _ _ _ e.0 f.0 in
-      rw whole (record { answered = let x = e.1.answered in let y = f.1.answered in cc; described = e.1; assessed = f.1 })
+      let told : ◌≡◌ {A = Result Analysis Refusal} (Ok (record { description = d; assessment = a })) (Ok (analysis (scene_of l m))) =
+          let x = e.1.answered in
+          let y = f.1.answered in
+          cc
+      in
+      rw whole (record { answered = told; numbered = ap analysis_numbers told; described = e.1; assessed = f.1 })
 
   -- where the one call refuses, one of its parts refuses so, too
   pub analyze-refused-by : (r : Refusal) → AnalyzeCall limits l m old new (Err r)

@@ -12,10 +12,10 @@ use Rattle.rules.specs.Paths.{no_incoming, settled_sources, paths_within, paths_
 use Rattle.rules.specs.Labels.{Label, label, settled_flag, low_sum, high_sum, labels}
 use Rattle.rules.specs.Reasons.{in_feedback, feedback, Reason, reason_kind, reason_component, reason_block, reason_minimum, reason_maximum, feedback_reason, own_reason, unequal_at, unequal_reason, unequal_reasons_by, unequal_reasons, temporal_reasons, reasons, scope, pattern}
 use Rattle.rules.specs.Projection.{compressed, marks, retained, first_edges, next, chain, chain_from, before_last, last_of, flips, inverts_at, ProjectedEdge, projected_by, projected_along, projected, starts_from, path_starts, path_ids, projected_path}
-use Rattle.rules.specs.Refusals.{Checked, answer_of, outputs_from, need_of, scene_limits, Output, output, first_refusal, after_from, after, component_lengths, connection_lengths, out_of_range, used_earlier, component_tests, end_missing, connection_tests, size_tests, scene_tests, check_scene, refusal_number, refusal_place}
-use Rattle.rules.specs.Describe.{TimedEdge, timed_edge, timed_edges, TemporalDevice, temporal_device, device_components, devices, Evidence, evidence_kind, evidence_source, evidence_sink, evidence_component, evidence_block, evidence, describe_outputs, check_describe, description as description_of, description_numbers}
-use Rattle.rules.specs.Assess.{assess_outputs, check_assess, assessment, scene_answer, scene_numbers}
-use Rattle.rules.specs.Analyze.{analysis, analysis_numbers}
+use Rattle.rules.specs.Refusals.{Checked, answer_of, need_of, scene_limits, Output, output, first_refusal, after_from, after, component_lengths, connection_lengths, out_of_range, used_earlier, component_tests, end_missing, connection_tests, size_tests, scene_tests, check_scene, refusal_number, refusal_place}
+use Rattle.rules.specs.Describe.{TimedEdge, timed_edge, timed_edges, TemporalDevice, temporal_device, device_components, devices, Evidence, evidence_kind, evidence_source, evidence_sink, evidence_component, evidence_block, evidence, describe_outputs, check_describe, describe_lists, describe_checked, description as description_of, description_numbers}
+use Rattle.rules.specs.Assess.{assess_outputs, check_assess, assess_lists, assess_checked, assessment, scene_answer, scene_numbers}
+use Rattle.rules.specs.Analyze.{AnalyzeLists, analysis_checked, analysis, analysis_numbers}
 use Rattle.rules.specs.Report.{component_fields, connection_fields}
 use Rattle.rules.specs.Pulses.{EventLists, event_lists as events, event_at, events_of, is_pulse, pulse_of, pulses_in, event_components, pulses}
 use Rattle.rules.specs.Verdicts.{ContractLists, contract_lists as contracts, contract_at, contracts_of, intent_of, design_intent, classify, Finding, finding_of, findings, finding_component, finding_polarity, finding_unit, finding_start_tick, finding_end_tick, finding_width, finding_steady, finding_baseline, finding_start, finding_end, finding_verdict, finding_rationale, tally, tallies}
@@ -112,6 +112,16 @@ lent cs ns = scene_of (component_fields cs) (connection_fields ns)
 abbrev pub needed : List Component → List Connection → (list fields : ℕ) → List ℕ
 needed cs ns k fields = replicate fields (need_of (length cs) (length ns) k)
 
+-- lists 0 to 8 of zeros, each as long as is said
+abbrev pub blank : List ℕ → AnalyzeLists
+blank rooms =
+    let of : ℕ → List ℕ = λ k. replicate (get_or rooms k 0) 0 in
+    let at : List ℤ = replicate (get_or rooms 1 0) (pos 0) in
+    record {
+      description = describe_lists (of 0) (of 0) (of 0) (of 0) (of 0) (of 1) at at at (of 1) (of 1) (of 2) (of 2) (of 2) (of 2) (of 2);
+      assessment = assess_lists (of 3) (of 3) (of 3) (of 3) (of 3) (of 4) (of 5) (of 6) (of 6) (of 6) (of 6) (of 6) (of 6) (of 6) (of 7) (of 8) (of 8) (of 8);
+    }
+
 abbrev pub refusal : Checked → Answer
 refusal c = checked (refusal_number c) (refusal_place c)
 
@@ -151,11 +161,11 @@ answer (ranged a b cs ns) =
     (map (λ e. projected_by low high (inverts_at cs) e (chain_from cs es e)) (first_edges cs es)) (map (λ n. edge_row (timed_edge low high cs n)) ns)
 answer (checks room l m) = refusal (check_scene (record { components = 3; connections = 2 }) l m (output 8 (length l.ids) (9 ∷ 9 ∷ room ∷ []) ∷ []))
 answer (fits rooms l m) =
-    let of : ℕ → List ℕ = λ k. get_or rooms k 0 ∷ [] in
-    let d = check_describe scene_limits l m (of 0) (of 1) (of 2) in
-    let a = check_assess scene_limits l m (of 3) (of 4) (of 5) (of 6) (of 7) (of 8) in
-    let c = check_scene scene_limits l m (outputs_from 0 (length l.ids) (length m.sources) (map of (indices 9))) in
+    let lists = blank rooms in
     let s = scene_of l m in
+    let d = describe_checked scene_limits l m lists.description in
+    let a = assess_checked scene_limits l m lists.assessment in
+    let c = analysis_checked scene_limits l m lists in
     table (description_numbers (description_of d s) ∷ scene_numbers (scene_answer a s) ∷ analysis_numbers (answer_of c (analysis s)) ∷ [])
 answer (needs n m) =
     table (map output_row (describe_outputs n m (10 ∷ []) (11 ∷ []) (12 ∷ []) ++ assess_outputs n m (13 ∷ []) (14 ∷ []) (15 ∷ []) (16 ∷ []) (17 ∷ []) (18 ∷ [])))

@@ -68,6 +68,7 @@ analysis_numbers (Ok x) =
 -- given what the checks find: the answer, and what each list holds after the call
 pub record AnalyzedBy (checked : Checked) (s : Scene) (old new : AnalyzeLists) (answer : Result Analysis Refusal) : Type 0 where
   pub answered : answer ≡ answer_of checked (analysis s)
+  pub numbered : analysis_numbers answer ≡ analysis_numbers (answer_of checked (analysis s))
   pub described : DescribedBy checked s old.description new.description (description_part answer)
   pub assessed : AssessedBy checked s old.assessment new.assessment (assessment_part answer)
 
