@@ -8,7 +8,7 @@ static bool kept(const struct list *list, const struct lent *lent, size_t i, siz
     const unsigned char *now = lent->list[i], *then = list->content;
     if (from >= to)
         return true;
-    if (list->role == READ || lent->state == AS_MADE)
+    if (list->role == READ || list->role == KEEP || lent->state == AS_MADE)
         return memcmp(now + from, then + from, to - from) == 0;
     for (size_t k = from; k < to && lent->manner != BLOCKS; k++)
         if ((now[k] ^ then[k]) != 0xFF)
@@ -18,7 +18,7 @@ static bool kept(const struct list *list, const struct lent *lent, size_t i, siz
 
 size_t changed_list(const struct call *call, const struct lent *lent, bool refused)
 {
-    for (size_t i = 0; i < call->count; i++) {
+    for (size_t i = 0; i < call->all; i++) {
         const struct list *list = &call->lists[i];
         size_t whole = list->length * list->width, from = list->from * list->width, used = list->used * list->width;
         if (list->role == WORK && !refused)
@@ -28,7 +28,7 @@ size_t changed_list(const struct call *call, const struct lent *lent, bool refus
         if (!kept(list, lent, i, 0, from) || !kept(list, lent, i, from + used, whole))
             return i;
     }
-    return call->count;
+    return call->all;
 }
 
 size_t unlike_list(const struct call *call, const struct lent *one, const struct lent *other)
@@ -40,7 +40,7 @@ size_t unlike_list(const struct call *call, const struct lent *one, const struct
         if (size > 0 && memcmp(one->list[i] + from, other->list[i] + from, size) != 0)
             return i;
     }
-    return call->count;
+    return call->all;
 }
 
 bool same_answer(const struct answer *one, const struct answer *other)

@@ -1,7 +1,7 @@
 // Random calls of every export. After each call the lists, what is around them and the answer are checked.
 //
-//     fuzz [--manner pages|zones|blocks] [SEED] [ROUNDS]
-//     fuzz --exports      prints each list of each export, and what it is lent for
+//     fuzz [--manner pages|zones|blocks] [--only EXPORT] [SEED] [ROUNDS]
+//     fuzz --exports      prints each list and struct of each export, and what it is lent for
 //
 // Round k of a seed, counted from 0, is the first round of seed + k. Exits with 1 at the first finding, with a line
 // that says how to replay it.
@@ -35,7 +35,8 @@
 static const char *const manners[] = {[PAGES] = "pages", [ZONES] = "zones", [BLOCKS] = "blocks"};
 
 // What is going on, for those who are called in the midst of it.
-static enum manner manner;
+static enum manner manner = PAGES;
+static const char *only; // the export that is called, or null: all
 static uint64_t seed_now;
 static struct call call_now;
 static struct lent *lent_now;
@@ -59,7 +60,7 @@ static void tell_call(void)
 
 static void found(size_t list, const char *what)
 {
-    if (list < call_now.count)
+    if (list < call_now.all)
         printf("FOUND: %s: %s\n", call_now.lists[list].name, what);
     else
         printf("FOUND: %s\n", what);
@@ -69,7 +70,7 @@ static void found(size_t list, const char *what)
 
 static void found_none_or(size_t list, const char *what)
 {
-    if (list < call_now.count)
+    if (list < call_now.all)
         found(list, what);
 }
 
@@ -117,14 +118,19 @@ static void lend_and_run(enum side side, enum state state, struct lent *lent, st
     lent_now = NULL;
     found_none_or(changed_zone(&call_now, lent), "changed beside the list");
     if (answer->number >= NUMBERS || !(call_now.export->possible >> answer->number & 1))
-        found(call_now.count, "a number that this call cannot give");
+        found(call_now.all, "a number that this call cannot give");
     if (state == AS_MADE && side == END) {
         const char *wrong = call_now.export->judge(&call_now, answer);
         if (wrong != NULL)
-            found(call_now.count, wrong);
+            found(call_now.all, wrong);
     }
     found_none_or(changed_list(&call_now, lent, answer->number != 0),
         answer->number ? "changed by a refused call" : "changed where the call was not to write");
+    if (answer->number == 0 && state == AS_MADE && side == END) {
+        const char *wrong = call_now.export->read(&call_now, lent, answer);
+        if (wrong != NULL)
+            found(call_now.all, wrong);
+    }
 }
 
 static void count_answer(size_t export, const struct answer *answer)
@@ -149,21 +155,23 @@ static void play_round(uint64_t seed)
     struct answer answer, again;
     size_t export = below(&random, EXPORTS);
     unsigned errors = VALGRIND_COUNT_ERRORS;
+    if (only != NULL && strcmp(only, exports[export].name) != 0)
+        return;
     alarm(SECONDS);
     seed_now = seed;
     make_call(&random, &call_now, &exports[export]);
     lend_and_run(END, AS_MADE, &first, &answer);
     lend_and_run(BEGINNING, AS_MADE, &second, &again);
     if (!same_answer(&answer, &again))
-        found(call_now.count, "another answer on copies of the lists");
+        found(call_now.all, "another answer on copies of the lists");
     found_none_or(unlike_list(&call_now, &first, &second), "other entries on copies of the lists");
     take_back(&call_now, &first);
     lend_and_run(END, TURNED, &third, &again);
     if (!same_answer(&answer, &again))
-        found(call_now.count, "an answer that depends on what the lists held that it writes");
+        found(call_now.all, "an answer that depends on what the lists held that it writes");
     found_none_or(unlike_list(&call_now, &second, &third), "depends on what the lists held that are written");
     if (VALGRIND_COUNT_ERRORS != errors)
-        found(call_now.count, "what valgrind says above");
+        found(call_now.all, "what valgrind says above");
     take_back(&call_now, &second);
     take_back(&call_now, &third);
     count_answer(export, &answer);
@@ -211,37 +219,68 @@ static bool tell_fields(void)
     return all;
 }
 
+static const char *struct_of(const struct call *call, size_t list)
+{
+    size_t end = 0;
+    for (size_t i = call->count; list < call->count && i < call->all; i++) {
+        end += call->lists[i].rows;
+        if (list < end)
+            return call->lists[i].name;
+    }
+    return "none";
+}
+
+// A line for each list and struct of each export: its name, what it is lent for, its type, and what struct it is in.
 static void tell_exports(void)
 {
-    static const char *const roles[] = {[READ] = "read", [WRITE] = "write", [WORK] = "work"};
-    for (size_t e = 0; e < EXPORTS; e++)
-        for (size_t i = 0; i < exports[e].count; i++)
-            printf("%s %s %s\n", exports[e].name, exports[e].lists[i].name, roles[exports[e].lists[i].role]);
+    static const char *const roles[] = {[READ] = "read", [KEEP] = "keep", [WRITE] = "write", [WORK] = "work"};
+    for (size_t e = 0; e < EXPORTS; e++) {
+        begin_call(&call_now, &exports[e]);
+        for (size_t i = 0; i < call_now.all; i++) {
+            const struct list *list = &call_now.lists[i];
+            printf("%s %s %s %s %s\n", exports[e].name, list->name, roles[list->role], list->type,
+                struct_of(&call_now, i));
+        }
+    }
+}
+
+static void stop(void)
+{
+    fprintf(stderr, "fuzz [--manner pages|zones|blocks] [--only EXPORT] [SEED] [ROUNDS]\n");
+    exit(2);
 }
 
 static uint64_t number_or_stop(const char *word)
 {
     char *end;
     uint64_t number = strtoull(word, &end, 10);
-    if (*word < '0' || *word > '9' || *end != '\0') {
-        fprintf(stderr, "fuzz [--manner pages|zones|blocks] [SEED] [ROUNDS]\n");
-        exit(2);
-    }
+    if (*word < '0' || *word > '9' || *end != '\0')
+        stop();
     return number;
+}
+
+static void take_option(const char *option, const char *value)
+{
+    bool known = false;
+    for (size_t e = 0; strcmp(option, "--only") == 0 && e < EXPORTS; e++)
+        if (strcmp(exports[e].name, value) == 0)
+            only = exports[e].name, known = true;
+    for (enum manner m = PAGES; strcmp(option, "--manner") == 0 && m <= BLOCKS; m++)
+        if (strcmp(manners[m], value) == 0)
+            manner = m, known = true;
+    if (!known)
+        stop();
 }
 
 int main(int count, char **words)
 {
     int word = 1;
-    manner = PAGES;
     if (count > 1 && strcmp(words[1], "--exports") == 0) {
         tell_exports();
         return 0;
     }
-    if (count > 2 && strcmp(words[1], "--manner") == 0) {
-        manner = strcmp(words[2], "zones") == 0 ? ZONES : strcmp(words[2], "blocks") == 0 ? BLOCKS : PAGES;
-        word = 3;
-    }
+    for (; word + 1 < count && words[word][0] == '-'; word += 2)
+        take_option(words[word], words[word + 1]);
     uint64_t seed = word < count ? number_or_stop(words[word++]) : 1;
     uint64_t rounds = word < count ? number_or_stop(words[word++]) : 100000;
     printf("%s, seed %" PRIu64 ", %" PRIu64 " rounds of three calls\n", manners[manner], seed, rounds);
@@ -251,7 +290,7 @@ int main(int count, char **words)
     for (uint64_t k = 0; k < rounds; k++)
         play_round(seed + k);
     bool numbers = tell_numbers();
-    if (rounds >= ENOUGH_ROUNDS && !(tell_fields() && numbers)) {
+    if (only == NULL && rounds >= ENOUGH_ROUNDS && !(tell_fields() && numbers)) {
         printf("TOO FEW: an export never gave a refusal that it can give, or always 0 for a number\n");
         return 1;
     }

@@ -73,7 +73,7 @@ static void check_giant(const struct lent *lent, const struct answer *answer, co
                 found("changed past its own entries", call.lists[i].name);
         call.lists[i].length = own[i];
     }
-    if (changed_list(&call, lent, answer->number != 0) < call.count)
+    if (changed_list(&call, lent, answer->number != 0) < call.all)
         found("a list is changed where it was not to be", giant);
 }
 
@@ -91,6 +91,7 @@ static unsigned run_giant(const struct export *export, size_t first, bool kind)
     for (size_t i = first; i < call.count; i++)
         if (i == first || (kind && call.lists[i].role == READ && call.lists[i].of == call.lists[first].of))
             make_giant(&lent, i);
+    lend_structs(&call, &lent);
     export->run(&call, lent.at, &answer);
     check_giant(&lent, &answer, call.lists[first].name);
     for (size_t i = 0; i < call.count; i++)
@@ -104,7 +105,7 @@ int main(void)
 {
     size_t accepted = 0, refused = 0;
     for (size_t e = 0; e < EXPORTS; e++)
-        for (size_t i = 0; i < exports[e].count; i++) {
+        for (size_t i = 0; i < exports[e].all && exports[e].lists[i].rows == 0; i++) {
             bool kind = exports[e].lists[i].role == READ && !(exports[e].possible >> UNNUMBERED & 1);
             for (int all = 0; all <= kind; all++)
                 *(run_giant(&exports[e], i, all) == 0 ? &accepted : &refused) += 1;

@@ -3,7 +3,7 @@
 #include "lists.h"
 #include "refusals.h"
 
-// Notes the entries of document 01's list of this number; whether there can be so many.
+// Notes the entries of the list of this number; whether there can be so many.
 static bool wrote(struct call *call, unsigned list, uint64_t from, uint64_t used, uint64_t most)
 {
     for (size_t i = 0; i < call->count; i++)
@@ -19,12 +19,15 @@ static const char *unless(bool right, const char *wrong)
     return right ? NULL : wrong;
 }
 
-// Of a refusal: its condition holds, and the numbers after it are 0, so many of them.
+// Of a refusal: its condition holds, none comes before it, and the numbers after it are 0, so many of them.
 static const char *judge_refusal(const struct call *call, const struct answer *answer, size_t zeros)
 {
     for (size_t k = 0; k < zeros; k++)
         if (answer->numbers[k] != 0)
             return "a refusal with a count that is not 0";
+    struct refusal first = first_refusal(call);
+    if (first.number != 0 && (first.number != answer->number || first.place != answer->place))
+        return "a refusal, and another comes before it";
     bool holds = refusal_holds(call, answer->number, answer->place);
     return unless(holds, "a refusal whose condition does not hold at its place");
 }
@@ -33,7 +36,7 @@ static const char *judge_acceptance(const struct call *call, const struct answer
 {
     if (answer->place != 0)
         return "accepted with a place";
-    if (any_refusal_holds(call))
+    if (first_refusal(call).number != 0)
         return "accepted, and a refusal's condition holds";
     return unless(right, "accepted with a count that cannot be");
 }
@@ -51,30 +54,46 @@ const char *judge_feedback(struct call *call, const struct answer *answer)
     return judge_acceptance(call, answer, room && answer->numbers[1] == (answer->numbers[0] > 0));
 }
 
-const char *judge_describe(struct call *call, const struct answer *answer)
+static bool wrote_description(struct call *call, const uint64_t *counts)
 {
-    const uint64_t *counts = answer->numbers;
     size_t n = length_of(call, 0), m = length_of(call, 1);
-    if (answer->number)
-        return judge_refusal(call, answer, answer->count);
     bool edges = wrote(call, 0, 0, counts[0], m), devices = wrote(call, 1, 0, counts[1], n);
     bool evidence = wrote(call, 2, 0, counts[2], m + n);
-    return judge_acceptance(call, answer, edges && devices && evidence && counts[2] == m + counts[1]);
+    return edges && devices && evidence && counts[2] == m + counts[1];
 }
 
-const char *judge_assess(struct call *call, const struct answer *answer)
+const char *judge_describe(struct call *call, const struct answer *answer)
 {
-    enum { SCOPE, PATTERN, CONFIDENCE, REASONS, FEEDBACK, RETAINED, COMPRESSED, PROJECTED, PATH_IDS };
-    const uint64_t *counts = answer->numbers;
-    size_t n = length_of(call, 0), m = length_of(call, 1);
     if (answer->number)
         return judge_refusal(call, answer, answer->count);
+    return judge_acceptance(call, answer, wrote_description(call, answer->numbers));
+}
+
+static bool wrote_assessment(struct call *call, const uint64_t *counts)
+{
+    enum { SCOPE, PATTERN, CONFIDENCE, REASONS, FEEDBACK, RETAINED, COMPRESSED, PROJECTED, PATH_IDS };
+    size_t n = length_of(call, 0), m = length_of(call, 1);
     bool reasons = wrote(call, 3, 0, counts[REASONS], 2 * n + 1), feedback = wrote(call, 4, 0, counts[FEEDBACK], n);
     bool marks = wrote(call, 5, 0, n, n) && counts[RETAINED] <= n && counts[RETAINED] + counts[COMPRESSED] == n;
     bool projected = wrote(call, 6, 0, counts[PROJECTED], m), paths = wrote(call, 7, 0, counts[PATH_IDS], 2 * m + n);
     bool labels = wrote(call, 8, 0, n, n);
     bool codes = counts[SCOPE] <= 2 && counts[PATTERN] <= 3 && counts[CONFIDENCE] == 100;
-    return judge_acceptance(call, answer, reasons && feedback && marks && projected && paths && labels && codes);
+    return reasons && feedback && marks && projected && paths && labels && codes;
+}
+
+const char *judge_assess(struct call *call, const struct answer *answer)
+{
+    if (answer->number)
+        return judge_refusal(call, answer, answer->count);
+    return judge_acceptance(call, answer, wrote_assessment(call, answer->numbers));
+}
+
+const char *judge_analyze(struct call *call, const struct answer *answer)
+{
+    if (answer->number)
+        return judge_refusal(call, answer, answer->count);
+    bool described = wrote_description(call, answer->numbers);
+    return judge_acceptance(call, answer, wrote_assessment(call, answer->numbers + 3) && described);
 }
 
 static uint64_t sum_of_five(const uint64_t *tallies)
@@ -111,29 +130,58 @@ const char *judge_recording(struct call *call, const struct answer *answer)
     return judge_acceptance(call, answer, findings && grown && tallies && contracts);
 }
 
+// The edge's start and length, if they lie within list 7.
 const char *judge_path(struct call *call, const struct answer *answer)
 {
-    size_t ids = call->lists[0].length, start = answer->numbers[0], length = answer->numbers[1];
-    return unless(start <= ids && length <= ids - start, "a path that does not lie within list 7");
+    PLACES(PROJECTED_PATH);
+    size_t ids = call->lists[AT_paths].length, edge = call->edge, start = 0, length = 0;
+    if (edge < call->lists[AT_starts].length && edge < call->lists[AT_lengths].length) {
+        start = places_of(call, AT_starts)[edge];
+        length = places_of(call, AT_lengths)[edge];
+    }
+    if (start > ids || length > ids - start)
+        start = length = 0;
+    return unless(answer->numbers[0] == start && answer->numbers[1] == length, "a path that is not the edge's");
 }
 
 const char *judge_sort(struct call *call, const struct answer *answer)
 {
-    enum { SORT_POSITIONS(PLACE, NO_NUMBER) COUNT };
+    PLACES(SORT_POSITIONS);
     size_t n = call->lists[AT_keys].length;
     bool fits = n <= call->lists[AT_order].length && n <= call->lists[AT_scratch].length;
     call->lists[AT_order].used = answer->number ? 0 : n;
     return unless(fits == !answer->number, "wrong about whether there is room");
 }
 
+// Whether the positions are those of all keys, by rising key and then by rising position.
+static bool ordered(struct call *call, size_t keys, size_t order)
+{
+    const uint64_t *key = words_of(call, keys);
+    const size_t *position = places_of(call, order);
+    size_t n = call->lists[keys].length;
+    if (call->lists[order].length != n)
+        return false;
+    for (size_t k = 0; k < n; k++)
+        if (position[k] >= n || (k > 0 && key[position[k - 1]] > key[position[k]])
+            || (k > 0 && key[position[k - 1]] == key[position[k]] && position[k - 1] >= position[k]))
+            return false;
+    return true;
+}
+
 const char *judge_find(struct call *call, const struct answer *answer)
 {
-    enum { FIND_POSITION(PLACE, NO_NUMBER) COUNT };
-    size_t position = answer->numbers[0];
-    if (answer->number)
-        return unless(position == 0, "a position of a key that was not found");
-    return unless(position < call->lists[AT_keys].length && words_of(call, AT_keys)[position] == call->key,
-        "a position that does not have the key");
+    PLACES(FIND_POSITION);
+    const uint64_t *keys = words_of(call, AT_keys);
+    size_t position = answer->numbers[0], n = call->lists[AT_keys].length, first = 0;
+    if (answer->number && position != 0)
+        return "a position of a key that was not found";
+    if (!answer->number && !(position < n && keys[position] == call->key))
+        return "a position that does not have the key";
+    if (!ordered(call, AT_keys, AT_order))
+        return NULL;
+    while (first < n && keys[first] != call->key)
+        first++;
+    return unless(answer->number ? first == n : first == position, "another position than the key's first");
 }
 
 // Every entry is a node, one of the numbers below n.
@@ -156,7 +204,7 @@ static bool room(const struct call *call, size_t first, size_t last, size_t need
 
 const char *judge_marking(struct call *call, const struct answer *answer)
 {
-    enum { MARK_SHARED_COMPONENTS(PLACE, NO_NUMBER) COUNT };
+    PLACES(MARK_SHARED_COMPONENTS);
     size_t n = call->lists[AT_marks].length, m = call->lists[AT_sources].length;
     bool lengths = call->lists[AT_sinks].length == m && room(call, AT_head, AT_head, n)
         && room(call, AT_next, AT_next, m) && room(call, AT_order, AT_group, n);
@@ -167,7 +215,7 @@ const char *judge_marking(struct call *call, const struct answer *answer)
 
 const char *judge_reconvergence(struct call *call, const struct answer *answer)
 {
-    enum { RECONVERGENT_DELAY_REASONS(PLACE, NO_NUMBER) COUNT };
+    PLACES(RECONVERGENT_DELAY_REASONS);
     size_t n = call->lists[AT_low].length, m = call->lists[AT_sources].length, listed = call->lists[AT_order].length;
     size_t unequal = answer->numbers[0];
     bool lengths = call->lists[AT_sinks].length == m && call->lists[AT_high].length == n

@@ -120,25 +120,45 @@ static size_t same_entries(const struct call *call, size_t i)
     return i;
 }
 
+void lend_structs(const struct call *call, struct lent *lent)
+{
+    size_t first = 0;
+    for (size_t i = call->count; i < call->all; i++) {
+        const struct list *list = &call->lists[i];
+        memset(list->content, 0x11 * (1 + lent->side + 2 * lent->state), list->length); // what is no field differs
+        list->put(call, first, lent->at, list->content);
+        memcpy(lent->list[i], list->content, list->length);
+        first += list->rows;
+    }
+}
+
+// How a list is handed over that has no entries, or the same as another.
+static void *handed(const struct call *call, const struct lent *lent, size_t i)
+{
+    const struct list *list = &call->lists[i];
+    if (list->length == 0 && list->empty != NO_ROOM)
+        return list->empty == NO_POINTER ? NULL : (void *)(uintptr_t)list->width;
+    return lent->at[lent->side == BEGINNING ? same_entries(call, i) : i];
+}
+
 void lend(const struct call *call, enum manner manner, enum side side, enum state state, struct lent *lent)
 {
     *lent = (struct lent){.manner = manner, .side = side, .state = state};
-    for (size_t i = 0; i < call->count; i++) {
-        const struct list *list = &call->lists[i];
+    for (size_t i = 0; i < call->all; i++) {
         if (manner == PAGES)
-            place_in_pages(list, lent, i);
+            place_in_pages(&call->lists[i], lent, i);
         else
-            place_in_block(list, lent, i);
-        fill_list(list, lent, lent->list[i]);
+            place_in_block(&call->lists[i], lent, i);
         if (lent->before[i].size > 0)
             memcpy(lent->before[i].at, pattern_of(lent, i), lent->before[i].size);
         if (lent->after[i].size > 0)
             memcpy(lent->after[i].at, pattern_of(lent, i), lent->after[i].size);
-        if (list->length == 0 && list->empty != NO_ROOM)
-            lent->at[i] = list->empty == NO_POINTER ? NULL : (void *)(uintptr_t)list->width;
-        if (side == BEGINNING)
-            lent->at[i] = lent->at[same_entries(call, i)];
     }
+    for (size_t i = 0; i < call->count; i++) {
+        fill_list(&call->lists[i], lent, lent->list[i]);
+        lent->at[i] = handed(call, lent, i);
+    }
+    lend_structs(call, lent);
 }
 
 static bool zone_kept(struct zone zone, const unsigned char *expected)
@@ -148,15 +168,15 @@ static bool zone_kept(struct zone zone, const unsigned char *expected)
 
 size_t changed_zone(const struct call *call, const struct lent *lent)
 {
-    for (size_t i = 0; i < call->count; i++)
+    for (size_t i = 0; i < call->all; i++)
         if (!zone_kept(lent->before[i], pattern_of(lent, i)) || !zone_kept(lent->after[i], pattern_of(lent, i)))
             return i;
-    return call->count;
+    return call->all;
 }
 
 void take_back(const struct call *call, struct lent *lent)
 {
-    for (size_t i = 0; i < call->count; i++)
+    for (size_t i = 0; i < call->all; i++)
         free(lent->block[i]);
 }
 
@@ -164,9 +184,9 @@ const char *near_list(const struct call *call, const struct lent *lent, const vo
 {
     static char words[120];
     uintptr_t place = (uintptr_t)address;
-    for (size_t i = 0; lent->manner == PAGES && i < call->count; i++) {
+    for (size_t i = 0; lent->manner == PAGES && i < call->all; i++) {
         uintptr_t begin = (uintptr_t)lent->at[i], end = begin + bytes_in(&call->lists[i]);
-        if (place + GUARD < begin || place >= end + GUARD)
+        if (place + GUARD / 2 < begin || place >= end + GUARD / 2)
             continue;
         const char *where = place < begin ? "before the beginning of" : place < end ? "within" : "past the end of";
         snprintf(words, sizeof words, "%s %s", where, call->lists[i].name);

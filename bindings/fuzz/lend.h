@@ -5,6 +5,7 @@
 // written.
 // ZONES: each list lies in a heap block of its own, between two guard zones.
 // BLOCKS: each list is a heap block of exactly its size.
+// A struct of lists is lent like a list. Only its call may write it where its lists are written.
 #ifndef FUZZ_LEND_H
 #define FUZZ_LEND_H
 
@@ -38,6 +39,9 @@ struct lent {
 void prepare_lending(enum manner manner);
 
 void lend(const struct call *call, enum manner manner, enum side side, enum state state, struct lent *lent);
+
+// Writes the pointers and lengths of the lists into the structs; `lend` does it too.
+void lend_structs(const struct call *call, struct lent *lent);
 
 // The first list with a changed guard zone, or the number of lists.
 size_t changed_zone(const struct call *call, const struct lent *lent);

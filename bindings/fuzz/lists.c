@@ -107,6 +107,14 @@ void make_outputs(struct random *random, struct call *call)
     }
 }
 
+void shorten_output(struct random *random, struct call *call)
+{
+    struct list *list = &call->lists[below(random, call->count)];
+    size_t need = need_of(call, list->of);
+    if (list->role == WRITE && need > 0 && list->length >= need)
+        list->length = need - 1;
+}
+
 void spoil_length(struct random *random, struct call *call, bool written)
 {
     struct list *list = &call->lists[below(random, call->count)];

@@ -23,11 +23,14 @@ void set_lengths(struct call *call, unsigned of, size_t length);
 // How long the lists of a record kind are, by the first of them.
 size_t length_of(const struct call *call, unsigned of);
 
-// How many entries document 01's list of this number needs, or SIZE_MAX where it needs more than there can be.
+// How many entries the list of this number needs, or SIZE_MAX where it needs more than there can be.
 size_t need_of(const struct call *call, unsigned list);
 
 // The lists that are written get enough room and random contents.
 void make_outputs(struct random *random, struct call *call);
+
+// A list becomes an entry too short, if it is one that is written and needs any.
+void shorten_output(struct random *random, struct call *call);
 
 // One list, of those that are written or of those that are read, gets another length: shorter by one, none, any.
 void spoil_length(struct random *random, struct call *call, bool written);

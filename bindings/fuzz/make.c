@@ -9,12 +9,12 @@ static unsigned char *contents[MOST_LISTS];
 
 void begin_call(struct call *call, const struct export *export)
 {
-    if (export->count > MOST_LISTS) {
+    if (export->all > MOST_LISTS) {
         fprintf(stderr, "%s has more lists than there is room for\n", export->name);
         exit(2);
     }
-    *call = (struct call){.export = export, .count = export->count};
-    for (size_t i = 0; i < export->count; i++) {
+    *call = (struct call){.export = export, .all = export->all};
+    for (size_t i = 0; i < export->all; i++) {
         if (contents[i] == NULL)
             contents[i] = malloc((size_t)MOST_ENTRIES * 8);
         if (contents[i] == NULL) {
@@ -23,6 +23,7 @@ void begin_call(struct call *call, const struct export *export)
         }
         call->lists[i] = export->lists[i];
         call->lists[i].content = contents[i];
+        call->count += call->lists[i].rows == 0;
     }
 }
 

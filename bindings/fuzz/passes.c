@@ -36,7 +36,7 @@ static void make_keys(struct random *random, uint64_t *keys, size_t count)
 
 void make_sort(struct random *random, struct call *call)
 {
-    enum { SORT_POSITIONS(PLACE, NO_NUMBER) COUNT };
+    PLACES(SORT_POSITIONS);
     size_t n = keys_length(random);
     const size_t needs[COUNT] = {[AT_order] = n, [AT_scratch] = n};
     call->lists[AT_keys].length = n;
@@ -57,7 +57,7 @@ static int by_key(const void *left, const void *right)
 // The ordered positions, or these with any damage.
 void make_find(struct random *random, struct call *call)
 {
-    enum { FIND_POSITION(PLACE, NO_NUMBER) COUNT };
+    PLACES(FIND_POSITION);
     size_t n = keys_length(random), *order = places_of(call, AT_order);
     uint64_t damage = below(random, 6);
     call->lists[AT_keys].length = call->lists[AT_order].length = n;
@@ -77,7 +77,7 @@ void make_find(struct random *random, struct call *call)
 // Starts and lengths within list 7, at its end, past it, and such that their sum wraps.
 void make_path(struct random *random, struct call *call)
 {
-    enum { PROJECTED_PATH(PLACE, NO_NUMBER) COUNT };
+    PLACES(PROJECTED_PATH);
     size_t ids = keys_length(random), edges = some_length(random, 60);
     call->lists[AT_paths].length = ids;
     call->lists[AT_starts].length = call->lists[AT_lengths].length = edges;
@@ -132,7 +132,7 @@ static size_t edges_length(struct random *random, size_t n)
 
 void make_marking(struct random *random, struct call *call)
 {
-    enum { MARK_SHARED_COMPONENTS(PLACE, NO_NUMBER) COUNT };
+    PLACES(MARK_SHARED_COMPONENTS);
     size_t n = nodes_length(random), m = edges_length(random, n);
     const size_t needs[COUNT] = {[AT_head] = n, [AT_next] = m, [AT_order] = n, [AT_group] = n};
     make_ends(random, call, AT_sources, AT_sinks, n, m);
@@ -144,7 +144,7 @@ void make_marking(struct random *random, struct call *call)
 
 void make_reconvergence(struct random *random, struct call *call)
 {
-    enum { RECONVERGENT_DELAY_REASONS(PLACE, NO_NUMBER) COUNT };
+    PLACES(RECONVERGENT_DELAY_REASONS);
     size_t n = nodes_length(random), m = edges_length(random, n);
     size_t listed = n == 0 ? below(random, 2) : one_in(random, 2) ? n : below(random, n < 4096 ? 2 * n + 1 : 4096);
     const size_t needs[COUNT] = {

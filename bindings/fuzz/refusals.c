@@ -3,8 +3,8 @@
 #include "exports.h"
 #include "lists.h"
 
-enum { SCENE_LISTS(PLACE) AT_room };
-enum { TRACE_LISTS(PLACE) TRACE_END };
+enum { SCENE(PLACE_FIELD, ) AT_room };
+enum { TRACE(PLACE_FIELD, ) TRACE_END };
 
 // An entry as a number without sign.
 static uint64_t entry(const struct call *call, size_t list, size_t place)
@@ -139,34 +139,65 @@ bool refusal_holds(const struct call *call, unsigned number, uint64_t place)
     }
 }
 
-// Those of lengths and of the record: there are few places to ask at.
-static bool size_refusal_holds(const struct call *call)
+// Those of lengths and of the record, in the order of a call's steps.
+static struct refusal first_of_sizes(const struct call *call)
 {
-    static const unsigned numbers[] = {1, 2, 7, 8, 9, 10, 13, 15};
+    static const unsigned numbers[] = {15, 13, 8, 1, 2, 9, 10, 7};
     for (size_t k = 0; k < sizeof numbers / sizeof *numbers; k++) {
         if (!(call->export->possible >> numbers[k] & 1))
             continue;
-        for (unsigned of = 0; of < 4; of++)
-            if (refusal_holds(call, numbers[k], length_of(call, of)))
-                return true;
         for (uint64_t place = 0; place < 10; place++)
             if (refusal_holds(call, numbers[k], place))
-                return true;
+                return (struct refusal){numbers[k], place};
+        for (unsigned of = 0; of < 4; of++)
+            if (refusal_holds(call, numbers[k], length_of(call, of)))
+                return (struct refusal){numbers[k], length_of(call, of)};
     }
-    return false;
+    return (struct refusal){0, 0};
 }
 
-bool any_refusal_holds(const struct call *call)
+// Component by component, then connection by connection.
+static struct refusal first_of_scene(const struct call *call)
 {
+    size_t n = length_of(call, 0), m = length_of(call, 1);
+    static const unsigned components[] = {4, 3}, connections[] = {5, 6};
+    for (size_t i = 0; i < 2 * n; i++)
+        if (refusal_holds(call, components[i % 2], i / 2))
+            return (struct refusal){components[i % 2], i / 2};
+    for (size_t j = 0; j < 2 * m; j++)
+        if (refusal_holds(call, connections[j % 2], j / 2))
+            return (struct refusal){connections[j % 2], j / 2};
+    return (struct refusal){0, 0};
+}
+
+// The unit, event by event, then contract by contract.
+static struct refusal first_of_trace(const struct call *call)
+{
+    size_t events = length_of(call, 2), contracts = length_of(call, 3);
+    if (call->unit > 1)
+        return (struct refusal){11, 0};
+    for (size_t i = 0; i < events; i++)
+        if (entry(call, AT_powered, i) > 1)
+            return (struct refusal){11, i};
+    for (size_t i = 0; i < contracts; i++) {
+        if (contract_out_of_range(call, i))
+            return (struct refusal){11, i};
+        if (refusal_holds(call, 12, i))
+            return (struct refusal){12, i};
+    }
+    return (struct refusal){0, 0};
+}
+
+struct refusal first_refusal(const struct call *call)
+{
+    struct refusal first = first_of_sizes(call);
     size_t longest = 0;
-    if (size_refusal_holds(call))
-        return true;
     for (size_t i = 0; i < call->count; i++)
         if (call->lists[i].role == READ && call->lists[i].length > longest)
             longest = call->lists[i].length;
-    for (unsigned number = 1; longest <= 64 && number < UNNUMBERED; number++)
-        for (size_t place = 0; (call->export->possible >> number & 1) && place <= longest; place++)
-            if (refusal_holds(call, number, place))
-                return true;
-    return false;
+    if (first.number != 0 || longest > 64)
+        return first;
+    if (call->export->possible >> 3 & 1)
+        return first_of_scene(call);
+    return call->export->possible >> 11 & 1 ? first_of_trace(call) : first;
 }

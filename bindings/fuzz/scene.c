@@ -2,7 +2,7 @@
 #include "exports.h"
 #include "lists.h"
 
-enum { SCENE_LISTS(PLACE) AT_room };
+enum { SCENE(PLACE_FIELD, ) AT_room };
 
 enum shape { ANY, FORWARD, CHAIN, RING, TWO_WAY, HUB, SELF, LADDER, PARALLEL, SMALL_RINGS, MIXED, SHAPES };
 
@@ -41,8 +41,8 @@ static struct edge edge_of(struct random *random, enum shape shape, size_t j, si
     }
 }
 
-// The library takes the upper bits of an id times 0x9E3779B97F4A7C15 for its first slot: of numbers in a row times the inverse
-// of that, modulo 2^64, these bits are the same.
+// The library takes the upper bits of an id times 0x9E3779B97F4A7C15 for its first slot: of numbers in a row times the
+// inverse of that, modulo 2^64, these bits are the same.
 #define SPREAD_INVERSE 0xF1DE83E19937733Du
 
 static uint64_t id_of(uint64_t form, uint64_t base, size_t place)
@@ -180,6 +180,8 @@ void make_scene(struct random *random, struct call *call)
     make_components(random, call, n);
     make_connections(random, call, n, m, shape);
     make_outputs(random, call);
+    if (one_in(random, 6))
+        shorten_output(random, call);
     for (uint64_t k = one_in(random, 3) ? 1 + below(random, 3) : 0; k > 0; k--)
         damage_scene(random, call);
 }

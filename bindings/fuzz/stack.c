@@ -4,7 +4,8 @@
 //
 // Each export is called in a thread with a painted stack on the deepest inputs and on random ones; the bytes that
 // lost their paint are counted. Then the smallest stack of a power of two KiB is searched in which a thread comes
-// through the deepest inputs. Exits with 1 where an export needs more than so many KiB, by default 256.
+// through the deep inputs and through that which used most. Exits with 1 where an export needs more than so many KiB,
+// by default 256.
 #define _GNU_SOURCE
 #include "exports.h"
 #include "lend.h"
@@ -56,21 +57,22 @@ static size_t sink_of(enum shape shape, size_t j)
     return source_of(shape, j) == k ? k + 1 : k;
 }
 
+// The ids crowd: then they are sorted, where others are found in a table.
 static void deep_scene(struct call *call, enum shape shape)
 {
-    enum { SCENE_LISTS(PLACE) COUNT };
+    enum { SCENE(PLACE_FIELD, ) COUNT };
     set_lengths(call, 0, COMPONENTS);
     set_lengths(call, 1, CONNECTIONS);
     for (size_t i = 0; i < COMPONENTS; i++) {
-        words_of(call, AT_ids)[i] = i + 1;
+        words_of(call, AT_ids)[i] = crowded_word(i);
         bytes_of(call, AT_kinds)[i] = 10;
         halves_of(call, AT_delays)[i] = 255;
         bytes_of(call, AT_locked)[i] = 0;
         signed_of(call, AT_xs)[i] = signed_of(call, AT_ys)[i] = signed_of(call, AT_zs)[i] = 0;
     }
     for (size_t j = 0; j < CONNECTIONS; j++) {
-        words_of(call, AT_sources)[j] = source_of(shape, j) + 1;
-        words_of(call, AT_sinks)[j] = sink_of(shape, j) + 1;
+        words_of(call, AT_sources)[j] = crowded_word(source_of(shape, j));
+        words_of(call, AT_sinks)[j] = crowded_word(sink_of(shape, j));
         bytes_of(call, AT_transfers)[j] = 1;
     }
 }
@@ -92,7 +94,7 @@ static uint64_t component_of(enum shape shape, size_t i)
 // All events of one component, one for each, or some for each.
 static void deep_trace(struct call *call, enum shape shape)
 {
-    enum { TRACE_LISTS(PLACE) COUNT };
+    enum { TRACE(PLACE_FIELD, ) COUNT };
     set_lengths(call, 2, EVENTS);
     set_lengths(call, 3, CONTRACTS);
     for (size_t i = 0; i < EVENTS; i++) {
@@ -108,8 +110,8 @@ static void deep_trace(struct call *call, enum shape shape)
     }
 }
 
-// Edges over positions; keys, which crowd where they are sorted and else rise, and a row of positions that rise; starts and lengths
-// of which the first two lie within.
+// Edges over positions; keys, which crowd where they are sorted and else rise, and a row of positions that rise; starts
+// and lengths of which the first two lie within.
 static void deep_pass(struct call *call, enum shape shape)
 {
     for (size_t i = 0; i < call->count; i++) {
@@ -126,9 +128,30 @@ static void deep_pass(struct call *call, enum shape shape)
     }
 }
 
-static void deep_call(struct call *call, const struct export *export, enum shape shape)
+static bool has_limits(const struct export *export)
 {
-    struct random random = {1};
+    return !(export->possible >> UNNUMBERED & 1);
+}
+
+// Input k of an export: a deep one of each shape, then random ones where these have limits.
+static size_t inputs_of(const struct export *export)
+{
+    return SHAPES + (has_limits(export) ? RANDOM_CALLS : 0);
+}
+
+static const char *name_of(size_t input)
+{
+    return input < SHAPES ? shapes[input] : "random";
+}
+
+static void make_input(struct call *call, const struct export *export, size_t input)
+{
+    struct random random = {input};
+    enum shape shape = input;
+    if (input >= SHAPES) {
+        make_call(&random, call, export);
+        return;
+    }
     begin_call(call, export);
     if (export->make == make_trace || export->make == make_recording)
         deep_trace(call, shape);
@@ -136,7 +159,7 @@ static void deep_call(struct call *call, const struct export *export, enum shape
         deep_scene(call, shape);
     else
         deep_pass(call, shape);
-    if (!(export->possible >> UNNUMBERED & 1))
+    if (has_limits(export))
         make_outputs(&random, call);
     call->edge = call->key = 1;
 }
@@ -199,8 +222,8 @@ static size_t used_by(const struct call *call, unsigned *number)
     return PAINTED - clean;
 }
 
-// Whether a thread with so much stack comes through the deepest inputs.
-static bool fits(const struct export *export, size_t size)
+// Whether a thread with so much stack comes through the deep inputs, and through that which used most.
+static bool fits(const struct export *export, size_t size, size_t deepest)
 {
     int status;
     pid_t child = fork();
@@ -208,8 +231,8 @@ static bool fits(const struct export *export, size_t size)
         struct call call;
         struct lent lent;
         unsigned char *stack = new_stack(size);
-        for (enum shape shape = 0; shape < SHAPES; shape++) {
-            deep_call(&call, export, shape);
+        for (size_t k = 0; k <= SHAPES; k++) {
+            make_input(&call, export, k < SHAPES ? k : deepest);
             lend(&call, BLOCKS, END, AS_MADE, &lent);
             run_in_thread(&(struct job){.call = &call, .lent = &lent}, stack, size);
         }
@@ -222,28 +245,21 @@ static bool fits(const struct export *export, size_t size)
     return WIFEXITED(status);
 }
 
-// The most bytes over the deepest calls, all of which do their work, and over random ones where these have limits.
-static size_t most_used(const struct export *export, const char **deepest)
+// The most bytes over all inputs, and which used them; the deep ones all do their work.
+static size_t most_used(const struct export *export, size_t *deepest)
 {
     struct call call;
     size_t most = 0;
     unsigned number;
-    for (enum shape shape = 0; shape < SHAPES; shape++) {
-        deep_call(&call, export, shape);
+    for (size_t k = 0; k < inputs_of(export); k++) {
+        make_input(&call, export, k);
         size_t used = used_by(&call, &number);
-        if (number != 0) {
-            printf("%s, %s: refused with %u\n", export->name, shapes[shape], number);
+        if (k < SHAPES && number != 0) {
+            printf("%s, %s: refused with %u\n", export->name, name_of(k), number);
             exit(1);
         }
         if (used > most)
-            *deepest = shapes[shape], most = used;
-    }
-    for (uint64_t seed = 0; !(export->possible >> UNNUMBERED & 1) && seed < RANDOM_CALLS; seed++) {
-        struct random random = {seed};
-        make_call(&random, &call, export);
-        size_t used = used_by(&call, &number);
-        if (used > most)
-            *deepest = "random", most = used;
+            *deepest = k, most = used;
     }
     return most;
 }
@@ -257,11 +273,10 @@ int main(int count, char **words)
     printf("stack of a thread, without the %zu bytes of one that does nothing\n", thread);
     printf("%-37s%12s%20s%14s\n", "export", "bytes", "of", "KiB suffice");
     for (size_t e = 0; e < EXPORTS; e++) {
-        const char *deepest;
-        size_t used = most_used(&exports[e], &deepest), kib = 16; // no thread may have less
-        while (kib < 16384 && !fits(&exports[e], kib * KIB))
+        size_t deepest = 0, used = most_used(&exports[e], &deepest), kib = 16; // no thread may have less
+        while (kib < 16384 && !fits(&exports[e], kib * KIB, deepest))
             kib *= 2;
-        printf("%-37s%12zu%20s%14zu\n", exports[e].name, used - thread, deepest, kib);
+        printf("%-37s%12zu%20s%14zu\n", exports[e].name, used - thread, name_of(deepest), kib);
         within = within && kib <= limit;
     }
     if (!within)

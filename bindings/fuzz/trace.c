@@ -2,7 +2,7 @@
 #include "exports.h"
 #include "lists.h"
 
-enum { TRACE_LISTS(PLACE) TRACE_END };
+enum { TRACE(PLACE_FIELD, ) TRACE_END };
 
 #define EVENTS SIZHBANTO_MAX_EVENTS
 #define TRACES SIZHBANTO_MAX_TRACES
@@ -113,6 +113,8 @@ void make_trace(struct random *random, struct call *call)
     make_events(random, call, events, &names);
     make_contracts(random, call, contracts, &names);
     make_outputs(random, call);
+    if (one_in(random, 6))
+        shorten_output(random, call);
     for (uint64_t k = one_in(random, 3) ? 1 + below(random, 3) : 0; k > 0; k--)
         damage_trace(random, call);
 }
