@@ -19,9 +19,9 @@ pub fn table(rng: &mut Rng) -> Result<(), String> {
         "N",
         "M",
         "Rust",
-        "scene call",
         "describe",
         "assess",
+        "scene call",
         "ratio",
         "describe",
         "assess"
@@ -51,23 +51,23 @@ fn row(rng: &mut Rng, shape: &Shape, n: usize) -> Result<(), String> {
     let best = best(rng, &case);
     let (n, m) = (case.lists.ids.len(), case.lists.sources.len());
     let times = [0, 1, 2, 3].map(|thing| format!("{:>11.1}", best.microseconds(thing)));
-    let ratios = [1, 2, 3].map(|thing| format!("{:>10.1}", best.ratio(thing)));
+    let ratios = [3, 1, 2].map(|thing| format!("{:>10.1}", best.ratio(thing)));
     let (times, ratios) = (times.concat(), ratios.concat());
     println!("{:<16}{n:>6}{m:>8}{times}{ratios}", shape.0);
     Ok(())
 }
 
-/// The Rust, the scene call, and each of its parts.
+/// The Rust, each part of the scene call, and the scene call.
 fn best(rng: &mut Rng, case: &Case) -> Best {
     let scene = rust::physical_scene(&case.lists);
     let lists = &case.lists;
-    let mut analyze = AnalyzeLists::lend(rng, &case.analyze);
     let mut describe = DescribeLists::lend(rng, &case.describe);
     let mut assess = AssessLists::lend(rng, &case.assess);
+    let mut analyze = AnalyzeLists::lend(rng, &case.analyze);
     Best::of(&mut [
         &mut || timed(|| TemporalAnalysis::from_scene(&scene)),
-        &mut || timed(|| analyze.call(lists)),
         &mut || timed(|| describe.call(lists)),
         &mut || timed(|| assess.call(lists)),
+        &mut || timed(|| analyze.call(lists)),
     ])
 }
