@@ -177,4 +177,4 @@ module _ (next : List ℕ) (s : Chain) (same : s.next.now ≡ next) where
   step-on e t h = (omega (arith, h.1.0, h.1.1, ap length same), sym h.1.0, h.0 ∙ same, h.1.2 ∙ ap (λ l. get_or l s.at 0) same ∙ ap (λ k. get_or next k 0) (sym h.1.0))
 
   pub step-end : (t : Chain) → chain_steps s None t → length next ≤ s.at
-  step-end t h = omega (arith, h.1, ap length same)
+  step-end t h = omega (arith, h.1.0, ap length same)

@@ -6,8 +6,8 @@ ghost use Rattle.graph.specs.Adjacency.{Below, Indexed};
 ghost use Rattle.graph.specs.Fits.{EdgesIndexed, ends_below};
 
 // Links the edges by the ends in `ends`. There is a node for each entry of head, and next must have an entry for each
-// edge and no more. If it does not, or an end is no node, the answer is false and both lists keep their contents. By
-// which number past the last edge a chain ends is open.
+// edge and no more. If it does not, or an end is no node, the answer is false and both lists keep their contents.
+/// By which number past the last edge a chain ends is open: any that is past it does.
 pub fn index_edges(ends: &[usize], head: &mut [usize], next: &mut [usize]) -> bool
     ensures { EdgesIndexed ends.now head.old next.old head.new next.new result }
 {

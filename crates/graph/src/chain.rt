@@ -5,6 +5,8 @@ ghost use Rattle.graph.specs.Adjacency.{Rises};
 ghost use Rattle.graph.specs.Chained.{chain_steps};
 
 // The edges that are left from `at` on: next[e] is the one after e, and a number past the last edge ends the chain.
+/// After its last edge it answers none however often it is asked, and stays where it is. It may be asked only where each link
+/// leads to a later edge.
 #[derive(Drop)]
 pub struct Chain<'a> {
     pub next: &'a [usize],

@@ -19,9 +19,9 @@ mod components; // components.rt: a group for each strongly connected component,
 
 // Marks each node of the graph with the edges sources[e] → sinks[e]: 1 if a different node is in its strongly connected
 // component, else 0. There is a node for each entry of marks. The lists must fit: as many sinks as sources, each end a
-// node, and room for the work. If they do not, the answer is false and every list keeps its content. If they do, what the
-// room holds afterwards is open. Calls nest as deep as a path of the graph is long, two for each node on it. Marks are bytes,
-// as list 5 of the C interface is.
+// node, and room for the work. If they do not, the answer is false and every list keeps its content. Calls nest as deep as
+// a path of the graph is long, two for each node on it. Marks are bytes, as list 5 of the C interface is.
+/// What the room's lists hold after an answer of true is open; they are the same lists.
 #[tactic(auto, using(crate::proofs::Fitting::fitting))]
 pub fn mark_shared_components(edges: &Edges<'_>, marks: &mut [u8], room: &mut GroupRoom<'_>) -> bool
     ensures same { SameRoom room.old room.new }

@@ -3,8 +3,8 @@ ghost use Rattle.order.specs.Searched.{Searched};
 
 use crate::keys::key_at;
 
-// Where `order` is the ordered positions of `keys`, answers the first position of the key, or that no position has it. Where it
-// is not, a position that is answered still has the key, but may not be the first, and a key may be missed.
+// Where `order` is the ordered positions of `keys`, answers the first position of the key, or that no position has it.
+/// Which position is answered for another `order`, if any, is open: one that is answered has the key.
 pub fn find_position(keys: &[u64], order: &[usize], key: u64) -> Option<usize>
     ensures { Searched keys.now order.now key result }
 {
