@@ -1,0 +1,2 @@
+mod ReplaySteps
+mod TallySteps
