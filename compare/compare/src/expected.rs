@@ -1,4 +1,4 @@
-//! What the calls have to answer to a scene that is accepted. The Rust decides; document 01's
+//! What the calls have to answer to a scene that is accepted. The Rust decides; the rules'
 //! words are held against it, and give the labels, which it does not have.
 use generator::lists::SceneLists;
 

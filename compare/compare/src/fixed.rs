@@ -11,7 +11,7 @@ use crate::rooms;
 use crate::run::{as_known, run, run_build};
 use crate::tally::Tally;
 
-/// The builds of document 01, every small scene, every small faulty one, every room of some, and
+/// The builds to hold against, every small scene, every small faulty one, every room of some, and
 /// every pair of faults.
 pub fn families(tally: &mut Tally) -> Result<(), String> {
     let rng = &mut Rng::new(0);
