@@ -26,7 +26,8 @@ pub trait Source: Read {
         ensures gave { gives self.old result self.new };
 }
 
-// Each reader is a source, of which it is not said what it gives.
+// Each reader is a source. What it gives is open here, as the library leaves it open: so no clause keeps `read_some` from an
+// error of its own, and it is the library's call alone.
 impl<R: Read> Source for R {
     ghost gives = { λ _ _ _. Unit {0} };
 

@@ -23,7 +23,8 @@ pub trait Sink: Write {
         ensures took { takes self.old bytes.now result self.new };
 }
 
-// Each writer is a sink, of which it is not said what it takes.
+// Each writer is a sink. What it takes is open here, as the library leaves it open: so no clause keeps `write_some` from an
+// error of its own, or from taking nothing, and it is the library's call alone.
 impl<W: Write> Sink for W {
     ghost takes = { λ _ _ _ _. Unit {0} };
 

@@ -4,7 +4,7 @@
 
 ghost use Rattle.rules.specs.Report.{report_of};
 ghost use Rattle.std.specs.Io.KnownBytes.{Appends};
-ghost use Rattle.std.specs.Prelude.{◌≡◌, ◌≤◌, ◌<◌, ◌^◌, ◌++◌, ◌∷◌, ◌↔◌, ◌⊎◌, [], ℕ, List, Bool, fold, decimal, length, IsTrue, IsOk, OnOk, IfErr, MatchResult};
+ghost use Rattle.std.specs.Prelude.{◌≡◌, ◌<◌, ◌^◌, ◌++◌, ◌∷◌, ◌↔◌, ◌⊎◌, [], List, Bool, decimal, IsTrue, OnOk, IfErr};
 ghost use Rattle.replay.specs.Sample.{number_with, number_of, first_text, line};
 ghost use Rattle.replay.specs.Replay.{Tells, ReadGave, WriteGave, PartRead, NextTold, Replayed, SampleTold};
 
