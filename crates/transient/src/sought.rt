@@ -42,6 +42,7 @@ impl<'t, 'a> SoughtCriterion<'t, 'a> {
     }
 
     // From which contract on the next component is sought: those passed have components below it too, if it is above the last.
+    // Any such place is right, 0 too: what is found is the same, and only the time differs.
     fn passed(&self, component: u64) -> usize
         ensures { AllBelow self.now.trace.now.aligned.lent.contracts.components.now component result }
     {
