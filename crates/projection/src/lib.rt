@@ -36,7 +36,8 @@ pub struct Projected {
 // must fit: as many sinks as sources, each end a node; each list of nodes with an entry for each id; the order's
 // entries nodes whose ids rise; marks, head and incoming with an entry for each node at least; next, firsts and the
 // seven fields of a projected edge with one for each edge at least, path_ids with two. If they do not, the answer is
-// None and every list keeps its content. If they do, what room holds afterwards is open: it is lent to work in.
+// None and every list keeps its content.
+/// What the room's lists hold after an answer that is not None is open; they are the same lists.
 pub fn steady_state_projection(
     nodes: &Nodes<'_>,
     edges: &Edges<'_>,

@@ -21,7 +21,8 @@ mod answers; // answers.rt: marks and positions from the lists at the end
 // more into them whose two sums differ, and answers how many they are. The lists must fit: as many sinks as sources,
 // high as long as low, each end and each entry of order a node; unequal with an entry for each of order at least, next
 // with one for each edge, the others with one for each node. If they do not, the answer is None and every list keeps its
-// content. If they do, what room holds afterwards is open: it is lent to work in.
+// content.
+/// What the room's lists hold after an answer that is not None is open; they are the same lists.
 pub fn reconvergent_delay_reasons(
     edges: &Edges<'_>,
     delays: &Delays<'_>,

@@ -5,7 +5,8 @@ ghost use Rattle.graph.specs.Fits.{SharedMarked};
 use graph::edges::{Edges, GroupRoom};
 use graph::mark_shared_components;
 
-// mark_shared_components for C. What head, next, order and group hold after a call whose lists fit is open.
+// mark_shared_components for C.
+/// What `head`, `next`, `order` and `group` hold after a call whose lists fit is open; else every list keeps its values.
 #[unsafe(no_mangle)]
 pub extern "C" fn sizhbanto_mark_shared_components(
     sources: &[usize],

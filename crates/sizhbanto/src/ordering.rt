@@ -7,7 +7,8 @@ ghost use Rattle.order.specs.Searched.{Searched, is_found, found_position};
 use order::search::find_position;
 use order::sort::sort_positions;
 
-// sort_positions for C. What scratch holds after a call that had room is open.
+// sort_positions for C.
+/// What `scratch` holds after an answer of true is open; after false both lists keep their values.
 #[unsafe(no_mangle)]
 pub extern "C" fn sizhbanto_sort_positions(
     keys: &[u64],
@@ -38,8 +39,9 @@ impl From<Option<usize>> for FoundNumbers {
     }
 }
 
-// find_position for C. Where order is not the ordered positions of the keys, which position that has the key is
-// answered, or none, is open.
+// find_position for C.
+/// Where `order` is not the ordered positions of the keys, which position is answered, if any, is open: one that is answered
+/// has the key.
 #[unsafe(no_mangle)]
 pub extern "C" fn sizhbanto_find_position(keys: &[u64], order: &[usize], key: u64) -> FoundNumbers
     ensures { (answer : Option ℕ) × Searched keys.now order.now key answer × (result.found ≡ is_found answer) × (result.position ≡ found_position answer) }

@@ -26,7 +26,9 @@ impl From<Option<usize>> for Reconverged {
     }
 }
 
-// reconvergent_delay_reasons for C. What head, next, incoming, left and queue hold after a call whose lists fit is open.
+// reconvergent_delay_reasons for C.
+/// What `head`, `next`, `incoming`, `left` and `queue` hold after a call whose lists fit is open; else every list keeps its
+/// values.
 #[unsafe(no_mangle)]
 pub extern "C" fn sizhbanto_reconvergent_delay_reasons(
     sources: &[usize],
