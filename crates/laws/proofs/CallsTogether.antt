@@ -140,9 +140,9 @@ module _ (limits : SceneLimits) (l : ComponentLists) (m : ConnectionLists) (old 
       let f = assess-accepted limits l m old.assessment new.assessment a assessed in
       let whole = calls-whole limits l m _ _ _ _ _ _ _ _ _ e.0 f.0 in
       let told : ◌≡◌ {A = Result Analysis Refusal} (Ok (record { description = d; assessment = a })) (Ok (analysis (scene_of l m))) =
-          let x = e.1.answered in
-          let y = f.1.answered in
-          cc
+      let x = e.1.answered in
+      let y = f.1.answered in
+      cc
       in
       rw whole (record { answered = told; numbered = ap analysis_numbers told; described = e.1; assessed = f.1 })
 
