@@ -139,11 +139,9 @@ module _ (limits : SceneLimits) (l : ComponentLists) (m : ConnectionLists) (old 
       let e = describe-accepted limits l m old.description new.description d described in
       let f = assess-accepted limits l m old.assessment new.assessment a assessed in
       let whole = calls-whole limits l m _ _ _ _ _ _ _ _ _ e.0 f.0 in
-      let told : ◌≡◌ {A = Result Analysis Refusal} (Ok (record { description = d; assessment = a })) (Ok (analysis (scene_of l m))) =
-      let x = e.1.answered in
-      let y = f.1.answered in
-      cc
-      in
+      let described_so = e.1.answered in
+      let assessed_so = f.1.answered in
+      let told : ◌≡◌ {A = Result Analysis Refusal} (Ok (record { description = d; assessment = a })) (Ok (analysis (scene_of l m))) = cc in
       rw whole (record { answered = told; numbered = ap analysis_numbers told; described = e.1; assessed = f.1 })
 
   -- where the one call refuses, one of its parts refuses so, too
