@@ -1,5 +1,5 @@
 // The entries of list 9.
-ghost use Rattle.std.specs.Prelude.{◌≡◌, ◌+◌, ◌^◌, ◌<◌, length, slice_index, slice_set};
+ghost use Rattle.std.specs.Prelude.{◌≡◌, ◌+◌, ◌^◌, ◌<◌, IsTrue, if◌then◌else◌, length, slice_index, slice_set};
 ghost use Rattle.rules.specs.Lists.{written_from};
 ghost use Rattle.rules.specs.Lent.{findings_lent, SameFindings};
 ghost use Rattle.rules.specs.Verdicts.{tallies, FindingsListed};
@@ -39,14 +39,30 @@ fn write_judgement(verdict: u8, rationale: u8, at: usize, findings: &mut Finding
     findings.rationales[at] = rationale;
 }
 
-// The tallies with one more finding of the verdict of this number.
-fn count_verdict(mut tallies: [u64; 5], verdict: u8) -> [u64; 5]
+// A tally, with one more where the verdict counted is its own.
+fn counted(tally: u64, own: bool) -> u64
+    requires { IsTrue own → tally + 1 < 2 ^ 64 }
+    ensures { result ≡ (if own then tally + 1 else tally) }
+{
+    if own { tally + 1 } else { tally }
+}
+
+// The tallies with one more finding of the verdict of this number. The places are constants, so that the five counts stay in
+// registers: at a place that is computed the array would go through memory twice for each finding.
+#[inline(always)]
+fn count_verdict(tallies: [u64; 5], verdict: u8) -> [u64; 5]
     requires number { verdict < 5 }
     requires few { slice_index tallies verdict + 1 < 2 ^ 64 }
     ensures { result ≡ slice_set tallies verdict (slice_index tallies verdict + 1) }
 {
-    tallies[usize::from(verdict)] += 1;
-    tallies
+    let [observed, deviation, candidate, confirmed, intentional] = tallies;
+    [
+        counted(observed, verdict == 0),
+        counted(deviation, verdict == 1),
+        counted(candidate, verdict == 2),
+        counted(confirmed, verdict == 3),
+        counted(intentional, verdict == 4),
+    ]
 }
 
 impl EventRow<'_> {
