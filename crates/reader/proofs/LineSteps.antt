@@ -1,5 +1,5 @@
 -- The first line of a text, cut at its line feed, and its name. Assumes nothing.
-use Rattle.std.proofs.Common.{◌≡◌, ℕ, suc, ◌+◌, ◌-◌, ◌<◌, Bool, true, false, cond, ◌&&◌, ◌||◌, not, List, [], ◌∷◌, Some, None, nat_lt, eqb, length, take, drop, position, refl, sym, ap, ◌∙◌, add-one, arith}
+use Rattle.std.proofs.Common.{◌≡◌, ℕ, suc, ◌+◌, ◌-◌, ◌<◌, Bool, Option, get_or, true, false, cond, ◌&&◌, ◌||◌, not, List, [], ◌∷◌, Some, None, nat_lt, eqb, length, take, drop, position, refl, sym, ap, ◌∙◌, add-one, arith}
 use Rattle.std.specs.Cmp.Lexicographic.{pointwise}
 use Rattle.std.specs.List.{position_or_len}
 use Rattle.rules.specs.Lists.{any}
@@ -8,6 +8,8 @@ use Rattle.reader.specs.Lines.{has_name, FoundLine}
 use Rattle.std.proofs.lemmas.Bool.{ltb-true}
 use Rattle.std.proofs.lemmas.Bool.Decides.{nat_tests}
 use Rattle.std.proofs.Math.ListN.{length-take, length-drop}
+use Rattle.std.proofs.lemmas.List.Sums.{position_or_len_is}
+use Rattle.memchr.specs.Find.{IsFirstByte, is_byte}
 use Rattle.std.proofs.Math.Seq.{take_all}
 
 -- how many bytes stand before the first line feed
@@ -50,6 +52,26 @@ unfolding starts_with
 compared [] line = refl
 compared (n ∷ name) [] = refl
 compared (n ∷ name) (b ∷ line) = let e = compared name line in let s : eqb b n ≡ eqb n b = grind arith in cc
+
+-- The first byte that is a line feed is at the first place that has one
+
+-- a byte is a line feed or not
+fed : (b : ℕ) → is_byte line_feed b ≡ eqb line_feed b
+fed b = grind arith
+
+unfed : (b : ℕ) (t : Bool) → eqb line_feed b ≡ t → (is_byte line_feed b ≡ true → ⊥) → t ≡ false
+unfed b true e n = absurd (n (fed b ∙ e))
+unfed b false e n = refl
+
+pub first_byte : (text : List ℕ) (r : Option ℕ) → IsFirstByte (is_byte line_feed) text r → r ≡ position (eqb line_feed) text
+first_byte text None h =
+    let none : first_feed text ≡ length text = position_or_len_is (eqb line_feed) text (length text) 0 (omega arith) (λ k b. unfed (get_or text k 0) _ refl (h k (omega arith) b)) (λ b. absurd (omega arith)) in
+    let out : nat_lt (first_feed text) (length text) ≡ false = grind (arith, none) in
+    rw out refl
+first_byte text (Some k) (before, here) =
+    let is : first_feed text ≡ k = position_or_len_is (eqb line_feed) text k 0 (omega (arith, before.high)) (λ j b. unfed (get_or text j 0) _ refl (before.before j (omega arith) b)) (λ b. sym (fed (get_or text k 0)) ∙ here) in
+    let inside : nat_lt (first_feed text) (length text) ≡ true = grind (arith, is, before.high) in
+    rw (inside, is) refl
 
 -- The line that is found
 

@@ -1,10 +1,13 @@
 // A text read line by line, a field on each line: the field's name and its value.
 ghost use Rattle.std.specs.Prelude.{◌≡◌, ◌+◌, ◌^◌, ◌<◌, ◌≤◌, List, ℕ, Option, OnOk, OnErr, MatchResult, SomeIff, eqb, length, true, false, position};
 ghost use Rattle.rules.specs.Lists.{not_empty};
-ghost use Rattle.rules.specs.Text.{line_feed, place, field};
+ghost use Rattle.rules.specs.Bytes.{number_up_to, signed_number};
+ghost use Rattle.rules.specs.Text.{line_feed, place, field, delay_word};
 ghost use Rattle.reader.specs.Lines.{NamedLine};
 ghost use Rattle.reader.specs.Readings.{reading, line_refused};
 
+use crate::numbers::{delay_word, number_up_to, signed_number};
+use memchr::memchr;
 use rules::answers::{Refusal, RefusalKind};
 use std::marker::Model;
 
@@ -44,10 +47,11 @@ impl<'a> Model for Lines<'a> {
 }
 
 // The place of the first line feed.
+#[tactic(auto, using(crate::proofs::LineSteps::first_byte))]
 fn line_end(text: &[u8]) -> Option<usize>
     ensures { result ≡ position (eqb line_feed) text.now }
 {
-    text.iter().position(|byte| b'\n' == *byte)
+    memchr(b'\n', text)
 }
 
 // The value of the first line, where it has this name, and the text after the line.
@@ -122,5 +126,35 @@ impl<'a> Lines<'a> {
         self.line += 1;
         self.rest = rest;
         Ok(found)
+    }
+
+    // Reads the next line, a field with this name whose value is a number from 0 to the largest.
+    pub fn number_field(&mut self, name: &[u8], most: u64) -> Result<u64, BrokenLine>
+        ensures reads { reading result self.new ≡ field name.now (number_up_to most) self.old }
+        ensures forward { OnOk result (length name.now + length self.new.rest + 1 ≤ length self.old.rest) }
+        ensures counted { MatchResult result (λ _. self.new.line ≡ self.old.line + 1) (λ e. e.line ≡ self.old.line) }
+        ensures kept { OnErr result (self.new ≡ self.old) }
+    {
+        self.field(name, |digits| number_up_to(digits, most))
+    }
+
+    // The same of a delay's word.
+    pub fn delay_field(&mut self, name: &[u8]) -> Result<u16, BrokenLine>
+        ensures reads { reading result self.new ≡ field name.now delay_word self.old }
+        ensures forward { OnOk result (length name.now + length self.new.rest + 1 ≤ length self.old.rest) }
+        ensures counted { MatchResult result (λ _. self.new.line ≡ self.old.line + 1) (λ e. e.line ≡ self.old.line) }
+        ensures kept { OnErr result (self.new ≡ self.old) }
+    {
+        self.field(name, delay_word)
+    }
+
+    // The same of a number of signed 32 bits.
+    pub fn signed_field(&mut self, name: &[u8]) -> Result<i32, BrokenLine>
+        ensures reads { reading result self.new ≡ field name.now signed_number self.old }
+        ensures forward { OnOk result (length name.now + length self.new.rest + 1 ≤ length self.old.rest) }
+        ensures counted { MatchResult result (λ _. self.new.line ≡ self.old.line + 1) (λ e. e.line ≡ self.old.line) }
+        ensures kept { OnErr result (self.new ≡ self.old) }
+    {
+        self.field(name, signed_number)
     }
 }

@@ -1,13 +1,11 @@
 // A scene's rows read from its text.
 ghost use Rattle.std.specs.Prelude.{◌≡◌, ◌+◌, ◌*◌, ◌≤◌, [], ℕ, Option, Result, MatchResult, OnOk, length};
 ghost use Rattle.rules.specs.Bytes.{bytes};
-ghost use Rattle.rules.specs.Text.{Place, Reading, broken, read, place, field, max_text, number64};
-ghost use Rattle.reader.specs.Readings.{reading};
+ghost use Rattle.rules.specs.Text.{Place, Reading, broken, read, place, max_text};
 ghost use Rattle.text.specs.Reading.{component_more, connection_more, counted_rows, Filled, SceneRead};
 
 use crate::rows::{ComponentRows, ConnectionRows};
 use reader::lines::{BrokenLine, Lines};
-use reader::numbers::number64;
 use reader::rows::{read_component, read_connection};
 
 // Rows of one kind, which are read one after another.
@@ -51,14 +49,6 @@ impl ReadRows for ConnectionRows {
     }
 }
 
-// A count. It has a function of its own, since a generic one can't name what a form computes.
-fn read_count(lines: &mut Lines<'_>, name: &[u8]) -> Result<u64, BrokenLine>
-    ensures reads { reading result lines.new ≡ field name.now number64 lines.old }
-    ensures forward { OnOk result (length lines.new.rest ≤ length lines.old.rest) }
-{
-    lines.field(name, number64)
-}
-
 // A count, and as many rows.
 #[tactic(auto, unfolding(rules::specs::Text::and_then, crate::specs::Reading::rows_more, crate::specs::Reading::counted_rows))]
 fn read_counted<R: ReadRows>(
@@ -70,7 +60,7 @@ fn read_counted<R: ReadRows>(
     ensures reads { Filled (counted_rows R.more name.now rows.old lines.old) result rows.new lines.new }
     ensures forward { OnOk result (length lines.new.rest ≤ length lines.old.rest) }
 {
-    let count = read_count(lines, name)?;
+    let count = lines.number_field(name, u64::MAX)?;
     for _ in 0..count {
         rows.read_row(lines)?;
     }
