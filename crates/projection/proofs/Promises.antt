@@ -2,11 +2,11 @@
 -- scene's. Assumes nothing.
 use mathlib.Core.Bool.{true, false, not, cond, ◌&&◌}
 use mathlib.Core.List.{List, map, Memᴰ}
-use mathlib.Core.Path.{◌≡◌, ap, ◌∙◌}
+use mathlib.Core.Path.{◌≡◌, refl, ap, ◌∙◌}
 use Prim.Native.Nat.{ℕ, ◌<◌}
 use lib.Dec.{eqb}
 use lib.ListN.{length}
-use Rattle.std.specs.Prelude.{Option, is_some, IfSome}
+use Rattle.std.specs.Prelude.{Option, Some, None, is_some, IfSome}
 use Rattle.rules.specs.Lists.{indices, Distinct}
 use Rattle.rules.specs.Ordered.{key_at}
 use Rattle.rules.specs.Positions.{id_at, Positioned}
@@ -25,8 +25,12 @@ module _ {l : NodeLists} {marks marks' : List ℕ} {c c' : ProjectedLists} {w w'
   pub fitting-projects : Fitted l marks c w → (is_some r ≡ true) × IfSome r (λ p. Projecting l marks marks' c c' p)
   fitting-projects f = (call.answer ∙ fitting l marks c w f, call.done)
 
-  pub refused-keeps : projection_fits l marks c w ≡ false → Refusing marks marks' c c' w w'
-  refused-keeps e = call.refused (call.answer ∙ e)
+  pub refused-keeps : projection_fits l marks c w ≡ false → (r ≡ None) × Refusing marks marks' c c' w w'
+  refused-keeps e = (none r (call.answer ∙ e), call.refused (call.answer ∙ e))
+    where
+      none : (r : Option Projected) → is_some r ≡ false → r ≡ None
+      none None e = refl
+      none (Some p) e = cc
 
 -- the positions of a scene's components, with the numbers that say what each is
 module _ (l : ComponentLists) (distinct : Distinct l.ids) (es positions : List Edge) (at : Positioned l.ids es positions) (compressible : List ℕ)

@@ -8,7 +8,7 @@ use native.Mathlib.Omega.{arith}
 use native.Mathlib.Nat.{add-zero}
 use borrow.Author.Tests.{ne_eqb}
 use lib.Dec.{eqb}
-use Rattle.std.specs.Prelude.{Option, Some, is_some}
+use Rattle.std.specs.Prelude.{Option, Some, None, is_some}
 use Rattle.std.proofs.lemmas.List.{set-get_or}
 use lib.ListN.{length, get_or, drop, take, set, length-map, get_or-eq_default}
 use lib.Seq.{drop_at, get_or-drop, get_or-append-add}
@@ -85,9 +85,9 @@ module _ (delays starts stops order : List ℕ) (labels : LabelColumns) (unequal
     sums-some = rw (h, i, j, k, l) at p.answer ∙ sums-fit (length delays) starts stops order labels unequal asked
 
     module _ {n : ℕ} (e : r ≡ Some n) where
-      pub sums-found : PathsSummed (edges_between starts stops) (key_at delays) (length delays) order labels labels' (take n unequal')
+      pub sums-given : PathsSummed (edges_between starts stops) (key_at delays) (length delays) order labels labels' (take n unequal')
       unfolding settled_marks
-      sums-found =
+      sums-given =
           let q = rw e at p in
           record {
             settled_marked = q.settles;
@@ -97,7 +97,21 @@ module _ (delays starts stops order : List ℕ) (labels : LabelColumns) (unequal
           }
 
       pub sums-counted : n ≡ length (take n unequal')
-      sums-counted = let q = rw e at p in q.counts ∙ sym (ap length sums-found.unequal_found)
+      sums-counted = let q = rw e at p in q.counts ∙ sym (ap length sums-given.unequal_found)
+
+      sums-listed : unequal' ≡ written unequal (keep (unequal_at (edges_between starts stops) (key_at delays) (key_at delays)) order)
+      sums-listed = let q = rw e at p in q.lists
+
+    -- such lists fit: the sums are found, and what the list of unequal delays holds is known to its end
+    pub sums-found : (n : ℕ) × (r ≡ Some n) × PathsSummed (edges_between starts stops) (key_at delays) (length delays) order labels labels' (take n unequal') × (n ≡ length (take n unequal'))
+        × (unequal' ≡ written unequal (keep (unequal_at (edges_between starts stops) (key_at delays) (key_at delays)) order))
+    sums-found = found r refl sums-some
+      where
+        found : (s : Option ℕ) → r ≡ s → is_some s ≡ true
+            → (n : ℕ) × (r ≡ Some n) × PathsSummed (edges_between starts stops) (key_at delays) (length delays) order labels labels' (take n unequal') × (n ≡ length (take n unequal'))
+            × (unequal' ≡ written unequal (keep (unequal_at (edges_between starts stops) (key_at delays) (key_at delays)) order))
+        found None e h = cc
+        found (Some n) e h = (n, e, sums-given e, sums-counted e, sums-listed e)
 
 -- Sums set to 0 one by one where a component is not settled
 
