@@ -1,5 +1,6 @@
 // List 2: evidence from connections, then from devices.
-ghost use Rattle.std.specs.Prelude.{◌≡◌, ◌+◌, length};
+ghost use Rattle.std.specs.Prelude.{◌≡◌, ◌+◌, ◌≤◌, length};
+ghost use Rattle.rules.specs.Lists.{written};
 ghost use Rattle.rules.specs.Lent.{SameEvidence};
 ghost use Rattle.describe.specs.Rows.{evidence_kind_code, devices_of, EvidenceFits, EvidenceRoom, ConnectionsListed, DeviceEvidenceListed, EvidenceListed};
 
@@ -21,6 +22,18 @@ impl From<EvidenceKind> for u8 {
     }
 }
 
+// Copies a list to the front of another. Entry by entry: `copy_from_slice` would have the archive for C need memmove from
+// outside.
+fn copy_front(from: &[u64], to: &mut [u64])
+    requires { length from.now ≤ length to.old }
+    ensures { to.new ≡ written to.old from.now }
+{
+    // by index: of entries that `to.iter_mut().zip(from)` lends, a proof knows nothing once the loop is over
+    for (j, &id) in from.iter().enumerate() {
+        to[j] = id;
+    }
+}
+
 // Writes an entry for each connection: its ends, as they are given.
 #[tactic(auto, unfolding(rules::specs::Lists::written_from))]
 fn list_connection_evidence(connections: &Connections<'_>, evidence: &mut EvidenceLists<'_>)
@@ -37,8 +50,8 @@ fn list_connection_evidence(connections: &Connections<'_>, evidence: &mut Eviden
     let components = &mut *evidence.components;
     let blocks = &mut *evidence.blocks;
     kinds[..m].fill(u8::from(EvidenceKind::VerifiedPhysicalConnection));
-    sources[..m].copy_from_slice(connections.sources);
-    sinks[..m].copy_from_slice(connections.sinks);
+    copy_front(connections.sources, sources);
+    copy_front(connections.sinks, sinks);
     components[..m].fill(0);
     blocks[..m].fill(0);
 }
