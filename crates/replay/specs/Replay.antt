@@ -1,5 +1,5 @@
 -- What the functions of the program answer. Assumes nothing: these are definitions.
-use Rattle.std.specs.Prelude.{◌≡◌, ◌≤◌, ◌<◌, ◌⊎◌, ℕ, Bool, List, [], ◌++◌, Option, None, Some, Result, Ok, Err, length, take, codes}
+use Rattle.std.specs.Prelude.{◌≡◌, ◌≤◌, ◌<◌, ◌⊎◌, ℕ, Bool, true, false, List, [], ◌++◌, Option, None, Some, Result, Ok, Err, length, take, codes}
 use Rattle.std.specs.Io.KnownBytes.{Consumes, Appends, IsAtEnd}
 use Rattle.std.specs.declared.io.Error.{Error}
 use Rattle.output.specs.Writing.{WriteFailed}
@@ -25,6 +25,13 @@ module _ {S : Type 0} (gives : S → Result ℕ Error → S → Type 0) where
   PartRead before after space n (Err BrokenOff) =
       ((length space < n) × Consumes before after []) ⊎ ((bytes : List ℕ) × Consumes before after bytes × (length bytes < n) × IsAtEnd after)
   PartRead before after space n (Err (Failed e)) = ReadGave e
+
+  -- a header was read whole; or the sample has ended; or it breaks off within a header
+  abbrev pub HeaderRead : (before after : Option (List ℕ)) (header : List ℕ) → Result Bool Stop → Type 0
+  HeaderRead before after header (Ok true) = Consumes before after header
+  HeaderRead before after header (Ok false) = Consumes before after [] × IsAtEnd after
+  HeaderRead before after header (Err BrokenOff) = (bytes : List ℕ) × Consumes before after bytes × (0 < length bytes) × (length bytes < 18) × IsAtEnd after
+  HeaderRead before after header (Err (Failed e)) = ReadGave e
 
   -- the sample has ended; or the next text is told; or the sample breaks off
   abbrev pub NextTold : (before after : Option (List ℕ)) → Result (Option Bool) Stop → Type 0

@@ -6,7 +6,7 @@ ghost use Rattle.rules.specs.Report.{report_of};
 ghost use Rattle.std.specs.Io.KnownBytes.{Appends};
 ghost use Rattle.std.specs.Prelude.{◌≡◌, ◌<◌, ◌^◌, ◌++◌, ◌∷◌, ◌↔◌, ◌⊎◌, [], List, Bool, decimal, IsTrue, OnOk, IfErr};
 ghost use Rattle.replay.specs.Sample.{number_with, number_of, first_text, line};
-ghost use Rattle.replay.specs.Replay.{Tells, ReadGave, WriteGave, PartRead, NextTold, Replayed, SampleTold};
+ghost use Rattle.replay.specs.Replay.{Tells, ReadGave, WriteGave, PartRead, HeaderRead, NextTold, Replayed, SampleTold};
 
 use input::{Source, read_full};
 use itoa::Buffer;
@@ -119,18 +119,32 @@ impl Tally {
     }
 }
 
+// Reads a header; or none, where the sample has ended. It is read half by half: on a socket of packets, where a read loses
+// the rest of its packet, one read of both halves takes other bytes. On a stream nothing is left for the second half behind a
+// first that the end cut short.
+fn read_header<S: Source>(input: &mut S, header: &mut [u8; 18]) -> Result<bool, Stop>
+    ensures { HeaderRead S.gives (S.remaining input.old) (S.remaining input.new) header.new result }
+{
+    let first = read_full(input, &mut header[..9])?;
+    if first == 0 {
+        return Ok(false);
+    }
+    let second = read_full(input, &mut header[9..])?;
+    if second < 9 {
+        return Err(Stop::BrokenOff);
+    }
+    Ok(true)
+}
+
 // Whether the next text gets its report, or that the sample has ended. A header is two numbers of eight digits, each with a
 // byte behind it.
 fn replay_next<S: Source>(input: &mut S, room: &mut Room<'_>) -> Result<Option<bool>, Stop>
     ensures { NextTold S.gives (S.remaining input.old) (S.remaining input.new) result }
 {
     let mut header = [0u8; 18];
-    let read = read_full(input, &mut header)?;
-    if read == 0 {
+    let found = read_header(input, &mut header)?;
+    if !found {
         return Ok(None);
-    }
-    if read < header.len() {
-        return Err(Stop::BrokenOff);
     }
     let text_length = number(&header[..9]);
     let report_length = number(&header[9..]);

@@ -1,7 +1,7 @@
 -- What was read stands at the front, and is what the reads gave.
 use Rattle.std.proofs.Common.{◌≡◌, ◌-◌, ℕ, List, length}
 use Rattle.input.specs.Reading.{GaveCounts, Filled}
-use Rattle.input.proofs.read_full.Given as goal
+use Rattle.input.proofs.read_by.Given as goal
 
 abbrev pub invariant-loop-done : goal.invariant-loop-done
 invariant-loop-done g l =
