@@ -9,7 +9,7 @@ use reconvergence::reconvergent_delay_reasons;
 // Whether the lists fit, and how many nodes are listed; 0 where they do not. C has no Option: an answer is its numbers.
 // FoundNumbers is alike, but C reads the fields by their names.
 #[repr(C)]
-#[derive(Drop)]
+#[derive(Clone, Copy)]
 pub struct Reconverged {
     pub fits: bool,
     pub unequal: usize,

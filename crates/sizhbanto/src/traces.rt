@@ -66,7 +66,7 @@ pub extern "C" fn sizhbanto_assess_transients(
 
 // The same numbers without the tallies, and the record after the call. C has no Result: an answer is its numbers.
 #[repr(C)]
-#[derive(Drop, Default)]
+#[derive(Clone, Copy, Default)]
 pub struct RecordedTrace {
     pub number: u32,
     pub place: u64,
