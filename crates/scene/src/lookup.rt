@@ -23,6 +23,14 @@ fn first_slot(id: u64) -> usize
     (id.wrapping_mul(SPREAD) >> 52) as usize
 }
 
+// The first of the slots in which an id is looked for then. Ids whose first slots crowd, as those that rise by 842, are spread here.
+fn next_slot(id: u64) -> usize
+    ensures { result < 4096 }
+{
+    let multiple = id.wrapping_mul(SPREAD);
+    first_slot(multiple ^ (multiple >> 32))
+}
+
 // Gives each id a slot, which then has one more than its position. A slot without an id has 0.
 pub(crate) fn fill_slots(ids: &[u64], slots: &mut [u16; SLOTS]) {
     for (position, &id) in ids.iter().enumerate() {
@@ -34,14 +42,25 @@ pub(crate) fn fill_slots(ids: &[u64], slots: &mut [u16; SLOTS]) {
 
 // An id for which no slot is free is found by the search alone.
 fn put(id: u64, link: u16, slots: &mut [u16; SLOTS]) {
-    let first = first_slot(id);
-    for step in 0..=PROBES {
-        let slot = (first + step) % SLOTS;
-        if slots[slot] == 0 {
-            slots[slot] = link;
+    if take(first_slot(id), link, slots) {
+        return;
+    }
+    let next = next_slot(id);
+    for step in 0..PROBES {
+        if take(next + step, link, slots) {
             return;
         }
     }
+}
+
+// Gives a slot a link if it has none, and answers whether it does.
+fn take(slot: usize, link: u16, slots: &mut [u16; SLOTS]) -> bool {
+    let place = &mut slots[slot % SLOTS];
+    let is_free = *place == 0;
+    if is_free {
+        *place = link;
+    }
+    is_free
 }
 
 // Ids that are all different, their positions in order, and slots of guesses at them.
@@ -68,21 +87,20 @@ impl IndexedIds<'_> {
     pub(crate) fn find(&self, id: u64) -> Option<usize>
         ensures { result ≡ position_of self.now.ids.now id }
     {
-        let first = first_slot(id);
-        match self.guess(first, id) {
+        match self.guess(first_slot(id), id) {
             Some(position) => Some(position),
-            None => self.find_further(first, id),
+            None => self.find_further(id),
         }
     }
 
     // The same by the slots after the first, then by the search.
     #[inline(never)]
-    fn find_further(&self, first: usize, id: u64) -> Option<usize>
-        requires { first < 4096 }
+    fn find_further(&self, id: u64) -> Option<usize>
         ensures { result ≡ position_of self.now.ids.now id }
     {
-        for step in 1..=PROBES {
-            if let Some(position) = self.guess(first + step, id) {
+        let next = next_slot(id);
+        for step in 0..PROBES {
+            if let Some(position) = self.guess(next + step, id) {
                 return Some(position);
             }
         }
